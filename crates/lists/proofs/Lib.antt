@@ -1,0 +1,6 @@
+pub mod Checks
+pub mod Search
+pub mod Best
+pub mod Rewrite
+pub mod Spans
+pub mod Grid

@@ -1,0 +1,5 @@
+pub mod Checks
+pub mod Search
+pub mod Rewrite
+pub mod Best
+pub mod Grid
