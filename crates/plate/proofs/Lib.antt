@@ -1,0 +1,4 @@
+pub mod Decided
+pub mod Datum
+pub mod Signed
+pub mod Sizes

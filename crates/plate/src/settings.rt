@@ -1,0 +1,102 @@
+// The settings of a plate: a height and a thickness set, with the sizes that follow from them.
+ghost use mathlib.Core.Path.{_≡_};
+ghost use Prim.Native.Nat.{_≤_};
+ghost use Rattle.paper.specs.Layer.{allowed, tmin, tmax};
+ghost use Rattle.plate.specs.Refusal.{decided};
+ghost use Rattle.plate.specs.Settings.{settingsChecks, settingsOf, toldMade, Passed};
+use crate::refusal::Reason;
+
+pub struct Settings {
+    pub height: usize,
+    pub set: u32,
+    pub tmin: usize,
+    pub tmax: usize,
+    // Starts of a table, and its cells.
+    pub rows: usize,
+    pub cells: usize,
+    // The greatest count M, and the entries of a sheet.
+    pub counts: usize,
+    pub entries: usize,
+}
+
+pub enum Made {
+    Good(Settings),
+    Bad(Reason),
+}
+
+// Whether the thickness t is in the set.
+pub fn is_allowed(set: u32, t: usize) -> bool
+    ensures { λ r. ⌜ r ≡ allowed «set» t ⌝ }
+{
+    if t < 1 {
+        return false;
+    }
+    if 32 < t {
+        return false;
+    }
+    (set >> (t - 1)) % 2 == 1
+}
+
+// The least member of the set, and 0 where it has none.
+pub fn least_of(set: u32) -> usize
+    ensures { λ r. ⌜ r ≡ tmin «set» ⌝ }
+{
+    let mut k: usize = 0;
+    while k < 32 {
+        if is_allowed(set, k + 1) {
+            return k + 1;
+        }
+        k += 1;
+    }
+    0
+}
+
+// The greatest member of the set, and 0 where it has none.
+pub fn greatest_of(set: u32) -> usize
+    ensures { λ r. ⌜ r ≡ tmax «set» ⌝ }
+{
+    let mut k: usize = 32;
+    while 0 < k {
+        if is_allowed(set, k) {
+            return k;
+        }
+        k -= 1;
+    }
+    0
+}
+
+impl Settings {
+    pub const LEAST_HEIGHT: u32 = 1;
+
+    pub const GREATEST_HEIGHT: u32 = 512;
+
+    // Refusals 1 and 2, or the settings.
+    pub fn new(height: u32, set: u32) -> Made
+        ensures { λ r. ⌜ (toldMade r ≡ decided (settingsChecks height «set») (settingsOf height «set»)) × Passed r height «set» ⌝ }
+    {
+        if height < Settings::LEAST_HEIGHT {
+            return Made::Bad(Reason::Height);
+        }
+        if Settings::GREATEST_HEIGHT < height {
+            return Made::Bad(Reason::Height);
+        }
+        if set == 0 {
+            return Made::Bad(Reason::NoThickness);
+        }
+        let n = height as usize;
+        let tmin = least_of(set);
+        let tmax = greatest_of(set);
+        let rows = n + 2 * tmax - 2;
+        let counts = rows / tmin;
+        Made::Good(Settings {
+            height: n,
+            set,
+            tmin,
+            tmax,
+            rows,
+            cells: rows * tmax,
+            counts,
+            entries: (rows + 1) * (counts + 1),
+        })
+    }
+}

@@ -1,0 +1,14 @@
+-- The rules of a height, a thickness set and a bound, over any layers' errors. Assumes nothing.
+use Prim.Native.Nat.{ℕ}
+use mathlib.Core.Bool.{Bool, _&&_}
+use lib.Dec.{leb}
+use Rattle.paper.specs.Layer.{allowed, tmax}
+use Rattle.sequence.specs.Sequence.{Rules}
+
+-- what is asked of a layer from h of thickness t whatever its error is
+unfoldable pub shape : ℕ → ℕ → ℕ → ℕ → Bool
+shape N T h t = allowed T t
+
+abbrev pub rules : ℕ → ℕ → ℕ → (ℕ → ℕ → ℕ) → Rules
+rules N T bound cell =
+    record { cell = cell; may = λ h t. shape N T h t && leb (cell h t) bound; tmax = tmax T; height = N }
