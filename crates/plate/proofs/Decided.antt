@@ -8,7 +8,22 @@ use Prim.Native.Nat.{ℕ}
 use native.Mathlib.Omega.{arith}
 use Rattle.lists.specs.Checks.{Check, first, Given, Quiet}
 use Rattle.lists.proofs.Checks.{first-passed, first-stopped, first-exactly, first-none}
+use Rattle.plate.specs.declared.refusal.Reason.{Reason}
+use Rattle.plate.specs.declared.settings.Made.the-variants.{Bad}
+use Rattle.plate.specs.Settings.{settingsChecks, settingsOf, toldMade}
 use Rattle.plate.specs.Refusal.{numberOf, Told, done, refused, Numbered, check, toldBy, decided}
+
+told-refused : {X : Type 0} (o : Option Numbered) (x : X) (number place : ℕ) → toldBy o x ≡ refused number place
+    → o ≡ some (record { number = number; place = place })
+told-refused none x n p e = absurd (let z : _≡_ {A = ℕ} 0 1 = cc in omega arith)
+told-refused (some r) x n p e =
+    let a : r .number ≡ n = cc in
+    let b : r .place ≡ p = cc in
+    λ i. some (record { number = a i; place = b i })
+
+refused-first : {X : Type 0} (cs : List (Check Numbered)) (x : X) (number place : ℕ) → decided cs x ≡ refused number place
+    → first cs ≡ some (record { number = number; place = place })
+refused-first cs x n p e = told-refused (first cs) x n p e
 
 module _ {X : Type 0} where
   pub decided-passed : (cs ds : List (Check Numbered)) (x : X) → first cs ≡ none → decided (cs ++ ds) x ≡ decided ds x
@@ -18,15 +33,7 @@ module _ {X : Type 0} where
       → decided (cs ++ ds) x ≡ refused (r .number) (r .place)
   decided-stopped cs ds x r e = ap (λ (o : Option Numbered). toldBy o x) (first-stopped cs ds r e)
 
-  told-refused : (o : Option Numbered) (x : X) (number place : ℕ) → toldBy o x ≡ refused number place
-      → o ≡ some (record { number = number; place = place })
-  told-refused none x n p e = absurd (let z : _≡_ {A = ℕ} 0 1 = cc in omega arith)
-  told-refused (some r) x n p e =
-      let a : r .number ≡ n = cc in
-      let b : r .place ≡ p = cc in
-      λ i. some (record { number = a i; place = b i })
-
-  told-done : (o : Option Numbered) (x y : X) → toldBy o x ≡ done y → (o ≡ none) × (x ≡ y)
+  pub told-done : (o : Option Numbered) (x y : X) → toldBy o x ≡ done y → (o ≡ none) × (x ≡ y)
   told-done none x y e = (refl, cc)
   told-done (some r) x y e = absurd (let z : _≡_ {A = ℕ} 0 1 = cc in omega arith)
 
@@ -44,3 +51,17 @@ module _ {X : Type 0} where
     λ e. first-none cs .0 (told-done (first cs) x x e .0),
     λ q. ap (λ (o : Option Numbered). toldBy o x) (first-none cs .1 q),
   )
+
+  -- the same where the first checks were asked by a function of their own, which said `said`
+  pub decided-said : (cs ds : List (Check Numbered)) (x : X) (reason : Reason) (place : ℕ)
+      → some (record { number = numberOf reason; place = place }) ≡ first cs → refused (numberOf reason) place ≡ decided (cs ++ ds) x
+  decided-said cs ds x reason place e = sym (decided-stopped cs ds x (record { number = numberOf reason; place = place }) (sym e))
+
+  -- and where the first checks were those of `Settings::new`, which made the settings or gave a reason
+  pub settings-bad : (N T : ℕ) (ds : List (Check Numbered)) (x : X) (reason : Reason)
+      → toldMade (Bad reason) ≡ decided (settingsChecks N T) (settingsOf N T) → refused (numberOf reason) 0 ≡ decided (settingsChecks N T ++ ds) x
+  settings-bad N T ds x reason e =
+      decided-said (settingsChecks N T) ds x reason 0 (sym (refused-first (settingsChecks N T) (settingsOf N T) (numberOf reason) 0 (sym e)))
+
+  pub settings-good : (N T : ℕ) (ds : List (Check Numbered)) (x : X) → first (settingsChecks N T) ≡ none → decided ds x ≡ decided (settingsChecks N T ++ ds) x
+  settings-good N T ds x e = sym (decided-passed (settingsChecks N T) ds x e)

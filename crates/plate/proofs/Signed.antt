@@ -11,7 +11,7 @@ use mir.Val.{Fits, SFits, toZ, ofZ, hbits}
 use mir.ValLaws.{toZ-ofZ, toZ-pos}
 use borrow.Author.Tests.{ltb-true, ltb-false, le-ltb, lt-ltb}
 use Rattle.paper.specs.Table.{natural}
-use Rattle.plate.specs.Datum.{heightOf}
+use Rattle.plate.specs.Datum.{datum, heightOf}
 
 pub wide64 : {z : ℤ} → SFits w32 z → SFits w64 z
 wide64 f = record { sfits = omega (arith, f .sfits) }
@@ -55,3 +55,11 @@ minus32-fits h p = subst (λ (x : ℤ). SFits w32 (x -ℤ pos 32)) (sym (toZ-pos
 
 pub minus32 : (h : ℕ) → h < 65536 → toZ w32 (ofZ w32 (toZ w32 h -ℤ pos 32)) ≡ heightOf h
 minus32 h p = toZ-ofZ w32 _ (minus32-fits h p) ∙ ap (λ (x : ℤ). x -ℤ pos 32) (toZ-pos w32 h (omega arith))
+
+-- the datum height of an i32, as it is read back from its bits
+pub datum-back : (z : ℤ) → SFits w32 z → datum (toZ w32 (ofZ w32 z)) ≡ datum z
+datum-back z f = ap datum (toZ-ofZ w32 z f)
+
+pub datum-fits : (z : ℤ) → SFits w32 z → datum z < 4_294_967_296
+datum-fits (pos n) f = omega (arith, f .sfits)
+datum-fits (negsuc n) f = omega arith

@@ -1,3 +1,4 @@
 pub mod Refusal
+pub mod Checked
 pub mod Settings
 pub mod Datum

@@ -6,7 +6,7 @@ use mathlib.Core.Option.{Option, none, some}
 use Rattle.lists.specs.Checks.{Check, first}
 use Rattle.plate.specs.declared.refusal.Reason.{Reason}
 use Rattle.plate.specs.declared.refusal.Reason.the-variants as reason
-use Rattle.plate.specs.declared.refusal.Refusal as refusal
+use Rattle.plate.specs.declared.refusal.Refusal.{Refusal}
 use Rattle.plate.specs.declared.refusal.Answer.{Answer}
 use Rattle.plate.specs.declared.refusal.Answer.the-variants.{Done, Refused}
 
@@ -34,9 +34,12 @@ pub data Told (X : Type 0) : Type 0 where
   done : X → Told X
   refused : ℕ → ℕ → Told X
 
+abbrev pub refusal : {X : Type 0} → Refusal → Told X
+refusal r = refused (numberOf (r .reason)) (r .place)
+
 abbrev pub told : Answer → Told ℕ
 told (Done x) = done x
-told (Refused r) = refused (numberOf (r .reason)) (r .place)
+told (Refused r) = refusal r
 
 -- a number of the document's table, when it is given, and its place
 pub record Numbered : Type 0 where

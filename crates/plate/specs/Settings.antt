@@ -20,7 +20,7 @@ abbrev pub outside : ℕ → ℕ → ℕ → Bool
 outside lo hi x = ltb x lo || ltb hi x
 
 -- 1: N outside 1 to 512; 2: T empty
-abbrev pub settingsChecks : ℕ → ℕ → List (Check Numbered)
+unfoldable pub settingsChecks : ℕ → ℕ → List (Check Numbered)
 settingsChecks N T = check 1 (outside 1 512 N) 0 ∷ check 2 (eqb T 0) 0 ∷ []
 
 abbrev pub settingsOf : ℕ → ℕ → Settings

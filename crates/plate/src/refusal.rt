@@ -1,6 +1,6 @@
 // Refusals: why a call was refused, and where. Document 01 numbers the reasons; `Reason::number` gives its numbers.
 ghost use mathlib.Core.Path.{_≡_};
-ghost use Rattle.plate.specs.Refusal.{numberOf, told};
+ghost use Rattle.plate.specs.Refusal.{numberOf};
 
 pub enum Reason {
     Height,
@@ -57,5 +57,11 @@ pub struct Refusal {
 // The answer of a call that returns one number: done with it, or refused.
 pub enum Answer {
     Done(u64),
+    Refused(Refusal),
+}
+
+// What some checks of a call find: that all pass, or the refusal of the first that does not.
+pub enum Checked {
+    Passed,
     Refused(Refusal),
 }

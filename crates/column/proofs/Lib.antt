@@ -1,0 +1,4 @@
+pub mod Order
+pub mod Inside
+pub mod Shares
+pub mod Starts

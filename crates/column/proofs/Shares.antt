@@ -1,0 +1,50 @@
+-- The inside voxels that are counted from the datum are document 01's, so its share and its picture are what is judged; a share is at
+-- most half of its layer; and it isn't 0 exactly where a boundary lies strictly between the layer's ends. For the last: where no
+-- boundary lies between, all voxels are alike; a boundary between has a voxel of one kind under it and one of the other kind at it.
+-- Assumes nothing.
+use Prim.Native.Nat.{ℕ, zero, suc, _+_, _-_, _*_, _/_, _%_, _≤_, _<_, min}
+use mathlib.Core.Path.{_≡_, refl, sym, ap, ap₂, _∙_, subst}
+use mathlib.Core.Bool.{Bool, true, false, cond}
+use mathlib.Core.List.{List, [], _∷_}
+use native.Mathlib.Omega.{arith}
+use native.Mathlib.Decide.{ℕ-discrete}
+use lib.Dec.{leb, ltb, eqb}
+use lib.IntN.{ℤ, pos, _+ℤ_}
+use borrow.Author.Tests.{eq-eqb, ne-eqb}
+use Rattle.paper.specs.Layer as paper
+use Rattle.plate.specs.Datum.{heightOf}
+use Rattle.plate.proofs.Datum.{reach-height, sum-height}
+use Rattle.column.specs.Inside.{reachedBy, passed, inside, judgedOf}
+use Rattle.column.specs.Picture.{judgement}
+use Rattle.column.specs.declared.Judged.{Judged}
+
+abbrev bit : Bool → ℕ
+bit b = cond b 1 0
+
+passed-is : (bs : List ℕ) (h : ℕ) → paper.atOrBelow bs (heightOf h) ≡ passed bs h
+unfolding passed reachedBy
+passed-is [] h = refl
+passed-is (b ∷ bs) h = ap₂ _+_ (ap bit (reach-height b h)) (passed-is bs h)
+
+odd : (n : ℕ) → bit (eqb (n % 2) 1) ≡ n % 2
+odd n = go (ℕ-discrete (n % 2) 1)
+  where
+    go : Dec (n % 2 ≡ 1) → bit (eqb (n % 2) 1) ≡ n % 2
+    go (yes e) = ap bit (eq-eqb (n % 2) 1 e) ∙ sym e
+    go (no e) = ap bit (ne-eqb (n % 2) 1 e) ∙ omega arith
+
+pub inside-is : (bs : List ℕ) (h t : ℕ) → paper.insideCount bs (heightOf h) t ≡ inside bs h t
+unfolding inside
+inside-is bs h zero = refl
+inside-is bs h (suc t) =
+    ap₂ _+_ (inside-is bs h t)
+    (ap (λ (z : ℤ). bit (paper.inside bs z)) (sum-height h t) ∙ odd (paper.atOrBelow bs (heightOf (h + t))) ∙ ap (λ n. n % 2) (passed-is bs (h + t)))
+
+-- what is judged of the inside voxels is document 01's picture and share
+pub judged-is : (bs : List ℕ) (h t i : ℕ) → i ≡ inside bs h t → judgedOf i t ≡ judgement bs (heightOf h) t
+unfolding judgedOf
+judged-is bs h t i e = let q : i ≡ paper.insideCount bs (heightOf h) t = e ∙ sym (inside-is bs h t) in rw q
+
+-- a share is at most half of its layer
+pub share-le : (bs : List ℕ) (z : ℤ) (t : ℕ) → paper.share bs z t ≤ t / 2
+share-le bs z t = omega arith

@@ -1,0 +1,24 @@
+-- The order of a column: refusals 4 and 5. Assumes nothing.
+use Prim.Native.Nat.{ℕ, _-_, _%_}
+use mathlib.Core.Bool.{Bool, true, false, cond, _||_}
+use mathlib.Core.List.{List, [], _∷_}
+use lib.Dec.{leb, ltb, eqb}
+use lib.ListN.{length, getD}
+use Rattle.lists.specs.Checks.{Check}
+use Rattle.lists.specs.Search.{lowest}
+use Rattle.plate.specs.Refusal.{Numbered, check}
+
+-- boundary i is not above the one before, or above N
+unfoldable pub misplaced : ℕ → List ℕ → ℕ → Bool
+misplaced N bs i = ltb N (getD bs i 0) || cond (eqb i 0) false (leb (getD bs i 0) (getD bs (i - 1) 0))
+
+-- the first such index, and the length where there is none
+unfoldable pub firstMisplaced : ℕ → List ℕ → ℕ
+firstMisplaced N bs = lowest (misplaced N bs) (length bs)
+
+-- 4: boundary count odd or above 64; 5: boundary not above the one before, or above N
+unfoldable pub columnChecks : ℕ → List ℕ → List (Check Numbered)
+columnChecks N bs =
+    check 4 (eqb (length bs % 2) 1 || ltb 64 (length bs)) (length bs)
+    ∷ check 5 (ltb (firstMisplaced N bs) (length bs)) (firstMisplaced N bs)
+    ∷ []

@@ -1,0 +1,194 @@
+// A column: its order, and one column in one layer.
+ghost use mathlib.Core.Path.{_≡_};
+ghost use Prim.Native.Nat.{_+_, _%_, _<_, _≤_};
+ghost use lib.ListN.{length};
+ghost use Rattle.lists.specs.Checks.{first};
+ghost use Rattle.plate.specs.Checked.{saidBy};
+ghost use Rattle.plate.specs.Refusal.{decided};
+ghost use Rattle.plate.specs.Settings.{Sound};
+ghost use Rattle.plate.specs.Datum.{heightOf};
+ghost use Rattle.column.specs.Order.{misplaced, firstMisplaced, columnChecks};
+ghost use Rattle.column.specs.Inside.{reachedBy, passed, inside, judgedOf};
+ghost use Rattle.column.specs.Picture.{layerChecks, judgement, toldPicture, pictureAnswer};
+ghost use mathlib.Core.List.{_++_};
+use plate::height::datum_of;
+use plate::refusal::Checked;
+use plate::refusal::Reason;
+use plate::refusal::Refusal;
+use plate::settings::Made;
+use plate::settings::Settings;
+use plate::settings::is_allowed;
+
+// One column in one layer: whether the picture fills it, and its share.
+pub struct Judged {
+    pub filled: bool,
+    pub share: u32,
+}
+
+pub enum Pictured {
+    Done(Judged),
+    Refused(Refusal),
+}
+
+fn wide(b: u16) -> u32
+    ensures { λ r. ⌜ (r ≡ b) × (r < 65536) ⌝ }
+{
+    b as u32
+}
+
+// Whether boundary i is above the height, or not above the one before.
+fn is_misplaced(column: &[u16], height: usize, i: usize) -> bool
+    requires { ⌜ i < length (now column) ⌝ }
+    ensures { λ r. ⌜ r ≡ misplaced height (now (column .entry)) i ⌝ }
+{
+    let b = wide(column[i]);
+    if height < b as usize {
+        return true;
+    }
+    if i == 0 {
+        return false;
+    }
+    b <= wide(column[i - 1])
+}
+
+// The first such boundary, or their number.
+fn first_misplaced(column: &[u16], height: usize) -> usize
+    ensures { λ r. ⌜ r ≡ firstMisplaced height (now (column .entry)) ⌝ }
+{
+    let mut i: usize = 0;
+    while i < column.len() {
+        if is_misplaced(column, height, i) {
+            return i;
+        }
+        i += 1;
+    }
+    i
+}
+
+// Refusals 4 and 5.
+pub fn check_column(column: &[u16], height: usize) -> Checked
+    ensures { λ r. ⌜ saidBy r ≡ first (columnChecks height (now (column .entry))) ⌝ }
+{
+    let count = column.len();
+    if count % 2 == 1 {
+        return Checked::Refused(Refusal {
+            reason: Reason::BoundaryCount,
+            place: count as u64,
+        });
+    }
+    if 64 < count {
+        return Checked::Refused(Refusal {
+            reason: Reason::BoundaryCount,
+            place: count as u64,
+        });
+    }
+    let at = first_misplaced(column, height);
+    if at < count {
+        return Checked::Refused(Refusal {
+            reason: Reason::Boundary,
+            place: at as u64,
+        });
+    }
+    Checked::Passed
+}
+
+// 1 where the boundary b is at or below the voxel h, else 0.
+fn reached(b: u16, h: u32) -> usize
+    ensures { λ r. ⌜ (r ≡ reachedBy b h) × (r ≤ 1) ⌝ }
+{
+    if wide(b) + 32 <= h { 1 } else { 0 }
+}
+
+// How many boundaries are at or below the voxel h.
+fn passed_at(column: &[u16], h: u32) -> usize
+    ensures { λ r. ⌜ r ≡ passed (now (column .entry)) h ⌝ }
+{
+    let mut n: usize = 0;
+    let mut i: usize = 0;
+    while i < column.len() {
+        n += reached(column[i], h);
+        i += 1;
+    }
+    n
+}
+
+// The inside voxels among the thickness voxels from start on.
+fn inside_of(column: &[u16], start: u32, thickness: u32) -> u32
+    requires { ⌜ start + thickness < 4294967296 ⌝ }
+    ensures { λ r. ⌜ (r ≡ inside (now (column .entry)) start thickness) × (r ≤ thickness) ⌝ }
+{
+    let mut n: u32 = 0;
+    let mut k: u32 = 0;
+    while k < thickness {
+        n += (passed_at(column, start + k) % 2) as u32;
+        k += 1;
+    }
+    n
+}
+
+// The picture and the share of t voxels of which i are inside; a tie is left unfilled.
+fn verdict(i: u32, t: u32) -> Judged
+    requires { ⌜ i ≤ t ⌝ }
+    ensures { λ r. ⌜ r ≡ judgedOf i t ⌝ }
+{
+    let o = t - i;
+    if o < i {
+        Judged {
+            filled: true,
+            share: o,
+        }
+    } else {
+        Judged {
+            filled: false,
+            share: i,
+        }
+    }
+}
+
+// One column in the layer from the datum height start.
+pub fn judge(column: &[u16], start: u16, thickness: u16) -> Judged
+    ensures { λ r. ⌜ (r ≡ judgement (now (column .entry)) (heightOf start) thickness) × (r .share ≤ thickness) ⌝ }
+{
+    let t = wide(thickness);
+    verdict(inside_of(column, wide(start), t), t)
+}
+
+fn refused(reason: Reason, place: u64) -> Pictured
+    ensures { λ r. ⌜ r ≡ Pictured.Refused (record { reason = reason; place = place }) ⌝ }
+{
+    Pictured::Refused(Refusal { reason, place })
+}
+
+// Where the settings are in order: 4, 5, 13.
+fn picture_of(column: &[u16], s: Settings, start: i32, thickness: u32) -> Pictured
+    requires { ⌜ Sound s ⌝ }
+    ensures { λ r. ⌜ toldPicture r ≡ decided (columnChecks (s .height) (now (column .entry)) ++ layerChecks (s .height) (s .«set») start thickness) (judgement (now (column .entry)) start thickness) ⌝ }
+{
+    let order = check_column(column, s.height);
+    if let Checked::Refused(refusal) = order {
+        return Pictured::Refused(refusal);
+    }
+    let h = datum_of(start);
+    if h + s.tmax < 33 {
+        return refused(Reason::NotAdmissible, 0);
+    }
+    if s.height + s.tmax + 30 < h {
+        return refused(Reason::NotAdmissible, 0);
+    }
+    let t = thickness as usize;
+    if is_allowed(s.set, t) {
+        return Pictured::Done(judge(column, h as u16, thickness as u16));
+    }
+    refused(Reason::NotAdmissible, 1)
+}
+
+// Document 01, 'Picture of a column in a layer': 1, 2, 4, 5, 13.
+pub fn picture(column: &[u16], height: u32, set: u32, start: i32, thickness: u32) -> Pictured
+    ensures { λ r. ⌜ toldPicture r ≡ pictureAnswer height «set» (now (column .entry)) start thickness ⌝ }
+{
+    let made = Settings::new(height, set);
+    match made {
+        Made::Bad(reason) => refused(reason, 0),
+        Made::Good(s) => picture_of(column, s, start, thickness),
+    }
+}
