@@ -1,4 +1,5 @@
 pub mod Order
 pub mod Inside
 pub mod Shares
+pub mod Between
 pub mod Starts

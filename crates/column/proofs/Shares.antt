@@ -1,24 +1,21 @@
--- The inside voxels that are counted from the datum are document 01's, so its share and its picture are what is judged; a share is at
--- most half of its layer; and it isn't 0 exactly where a boundary lies strictly between the layer's ends. For the last: where no
--- boundary lies between, all voxels are alike; a boundary between has a voxel of one kind under it and one of the other kind at it.
--- Assumes nothing.
-use Prim.Native.Nat.{ℕ, zero, suc, _+_, _-_, _*_, _/_, _%_, _≤_, _<_, min}
-use mathlib.Core.Path.{_≡_, refl, sym, ap, ap₂, _∙_, subst}
-use mathlib.Core.Bool.{Bool, true, false, cond}
+-- The inside voxels that are counted from the datum are document 01's, so its share and its picture are what is judged; and a share is
+-- at most half of its layer. Assumes nothing.
+use Prim.Native.Nat.{ℕ, zero, suc, _+_, _/_, _%_, _≤_}
+use mathlib.Core.Path.{_≡_, refl, sym, ap, ap₂, _∙_}
+use mathlib.Core.Bool.{Bool, cond}
 use mathlib.Core.List.{List, [], _∷_}
 use native.Mathlib.Omega.{arith}
 use native.Mathlib.Decide.{ℕ-discrete}
-use lib.Dec.{leb, ltb, eqb}
-use lib.IntN.{ℤ, pos, _+ℤ_}
+use lib.Dec.{eqb}
+use lib.IntN.{ℤ}
 use borrow.Author.Tests.{eq-eqb, ne-eqb}
 use Rattle.paper.specs.Layer as paper
 use Rattle.plate.specs.Datum.{heightOf}
 use Rattle.plate.proofs.Datum.{reach-height, sum-height}
 use Rattle.column.specs.Inside.{reachedBy, passed, inside, judgedOf}
 use Rattle.column.specs.Picture.{judgement}
-use Rattle.column.specs.declared.Judged.{Judged}
 
-abbrev bit : Bool → ℕ
+abbrev pub bit : Bool → ℕ
 bit b = cond b 1 0
 
 passed-is : (bs : List ℕ) (h : ℕ) → paper.atOrBelow bs (heightOf h) ≡ passed bs h
@@ -26,7 +23,8 @@ unfolding passed reachedBy
 passed-is [] h = refl
 passed-is (b ∷ bs) h = ap₂ _+_ (ap bit (reach-height b h)) (passed-is bs h)
 
-odd : (n : ℕ) → bit (eqb (n % 2) 1) ≡ n % 2
+-- the last digit of a number, as the test for odd numbers tells it
+pub odd : (n : ℕ) → bit (eqb (n % 2) 1) ≡ n % 2
 odd n = go (ℕ-discrete (n % 2) 1)
   where
     go : Dec (n % 2 ≡ 1) → bit (eqb (n % 2) 1) ≡ n % 2

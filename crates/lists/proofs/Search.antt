@@ -68,28 +68,22 @@ found p n i h b e = sym (lowest-hit p n i h b e)
 pub missed : (p : ℕ → Bool) (n i : ℕ) → i ≤ n → n ≤ i → ((k : ℕ) → k < i → p k ≡ false) → i ≡ lowest p n
 missed p n i h l b = let e : i ≡ n = omega arith in rw e (sym (lowest-none p n (λ k m. b k (omega arith))))
 
--- a loop over rows of w: the row from a on was searched by `lowest (λ j. p (a + j)) w`
-module _ (p : ℕ → Bool) (a w : ℕ) (before : (k : ℕ) → k < a → p k ≡ false) where
-  -- none in the row: none below the next row
-  pub row-missed : w ≤ lowest (λ j. p (a + j)) w → (k : ℕ) → k < a + w → p k ≡ false
-  row-missed h k l = go (decLt k a)
+-- a loop over rows of w: none passes below the row from a on, whose places were searched by the test q, and x is what that search found
+module _ (p : ℕ → Bool) (a w : ℕ) (before : (k : ℕ) → k < a → p k ≡ false) (q : ℕ → Bool) (same : (j : ℕ) → j < w → p (a + j) ≡ q j) (x : ℕ) (e : x ≡ lowest q w) where
+  none-under : (k : ℕ) → k < a + x → p k ≡ false
+  none-under k l = go (decLt k a)
     where
       go : Dec (k < a) → p k ≡ false
       go (yes u) = before k u
       go (no u) =
-          let e : a + (k - a) ≡ k = omega arith in
-          subst (λ (i : ℕ). p i ≡ false) e (lowest-before (λ j. p (a + j)) w (k - a) (omega arith))
+          let i : a + (k - a) ≡ k = omega arith in
+          subst (λ (i : ℕ). p i ≡ false) i (same (k - a) (omega (arith, lowest-le q w)) ∙ lowest-before q w (k - a) (omega arith))
+
+  -- none in the row: none below the next row
+  pub row-missed : w ≤ x → (k : ℕ) → k < a + w → p k ≡ false
+  row-missed h k l = none-under k (omega arith)
 
   -- one in the row: it is the lowest of all
-  pub row-found : (n : ℕ) → a + w ≤ n → lowest (λ j. p (a + j)) w < w → a + lowest (λ j. p (a + j)) w ≡ lowest p n
+  pub row-found : (n : ℕ) → a + w ≤ n → x < w → a + x ≡ lowest p n
   row-found n r h =
-      found p n (a + lowest (λ j. p (a + j)) w) (omega arith) below (lowest-passes (λ j. p (a + j)) w h)
-    where
-      below : (k : ℕ) → k < a + lowest (λ j. p (a + j)) w → p k ≡ false
-      below k l = go (decLt k a)
-        where
-          go : Dec (k < a) → p k ≡ false
-          go (yes u) = before k u
-          go (no u) =
-              let e : a + (k - a) ≡ k = omega arith in
-              subst (λ (i : ℕ). p i ≡ false) e (lowest-before (λ j. p (a + j)) w (k - a) (omega arith))
+      found p n (a + x) (omega arith) none-under (same x h ∙ ap q e ∙ lowest-passes q w (omega arith))

@@ -22,6 +22,9 @@ module _ {A : Type 0} {d : A} where
   pub span-old : {a n : ℕ} {g : ℕ → A → A} {old new : List A} → Span d a n g old new → getD new (a + n) d ≡ getD old (a + n) d
   span-old {a} {n} s = s .above (a + n) (omega arith)
 
+  pub span-unread : {a n : ℕ} {g : ℕ → A → A} {old new : List A} → Span d a n g old new → (i : ℕ) → i ≡ a + n → getD new i d ≡ getD old i d
+  span-unread {a} {n} s i e = s .above i (omega arith)
+
   module _ {a n : ℕ} {g : ℕ → A → A} {old new : List A} (s : Span d a n g old new) where
     pub span-keep : g n (getD new (a + n) d) ≡ getD new (a + n) d → Span d a (n + 1) g old new
     span-keep e = record { long = s .long; inside = λ m h. go m h (ℕ-discrete m n); below = s .below; above = λ i h. s .above i (omega arith) }
@@ -75,3 +78,25 @@ module _ {A : Type 0} {d : A} where
           let l : m - r * w < w = omega arith in
           subst (λ (i : ℕ). getD new i d ≡ flat w G i (getD old i d)) e
           (t .inside (m - r * w) l ∙ ap (G r (m - r * w)) (s .above (r * w + (m - r * w)) (omega arith)) ∙ rw (digits-div r l, digits-mod r l))
+
+  -- a loop's end
+  pub span-end : {a n : ℕ} {g : ℕ → A → A} {old new : List A} (k : ℕ) → Span d a n g old new → n ≤ k → k ≤ n → Span d a k g old new
+  span-end {a} {n} {g} {old} {new} k s l u = let e : n ≡ k = omega arith in rw e at s
+
+  -- a part after the part before it
+  pub span-more : {a n : ℕ} {g : ℕ → A → A} {old mid new : List A} (b m : ℕ) → b ≡ a + n
+      → Span d a n g old mid → Span d b m (λ k. g (n + k)) mid new → Span d a (n + m) g old new
+  span-more {a} {n} {g} {old} {mid} {new} b m e s t = record {
+    long = t .long ∙ s .long;
+    inside = λ k h. go k h (decLt k n);
+    below = λ i h. t .below i (omega arith) ∙ s .below i h;
+    above = λ i h. t .above i (omega arith) ∙ s .above i (omega arith);
+  }
+    where
+      go : (k : ℕ) → k < n + m → Dec (k < n) → getD new (a + k) d ≡ g k (getD old (a + k) d)
+      go k h (yes u) = t .below (a + k) (omega arith) ∙ s .inside k u
+      go k h (no u) =
+          let p : b + (k - n) ≡ a + k = omega arith in
+          let q : n + (k - n) ≡ k = omega arith in
+          subst (λ (i : ℕ). getD new i d ≡ g k (getD old i d)) p
+          (t .inside (k - n) (omega arith) ∙ ap (λ (i : ℕ). g i (getD mid (b + (k - n)) d)) q ∙ ap (g k) (s .above (b + (k - n)) (omega arith)))

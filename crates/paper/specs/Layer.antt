@@ -7,7 +7,7 @@ use mathlib.Core.List.{List, [], _∷_}
 use lib.Dec.{leb, ltb, eqb}
 use lib.ListN.{length, getD}
 use lib.IntN.{ℤ, pos, _+ℤ_}
-use lib.Signed.{leZ}
+use lib.Signed.{leZ, _<ℤ_}
 
 -- T is 32 bits: bit k - 1 set means that thickness k is allowed (1 to 32)
 unfoldable pub allowed : ℕ → ℕ → Bool
@@ -65,6 +65,13 @@ outsideCount bs z t = t - insideCount bs z t
 -- for one column its share is the smaller of its inside and outside counts
 abbrev pub share : List ℕ → ℤ → ℕ → ℕ
 share bs z t = min (insideCount bs z t) (outsideCount bs z t)
+
+-- the share isn't 0 exactly when some boundary lies strictly between z and z + t
+pub record Between (bs : List ℕ) (z : ℤ) (t : ℕ) : Type 0 where
+  pub index : ℕ
+  pub there : index < length bs
+  pub after : z <ℤ pos (getD bs index 0)
+  pub before : pos (getD bs index 0) <ℤ (z +ℤ pos t)
 
 -- the picture fills the column if inside exceeds outside; a tie is left unfilled
 abbrev pub filled : List ℕ → ℤ → ℕ → Bool

@@ -1,29 +1,35 @@
--- The datum: the two directions undo each other, and z + 32 is the datum height of every z that is not below it. Assumes nothing.
-use mathlib.Core.Path.{_≡_, refl, sym, ap, _∙_}
+-- The datum: the two directions undo each other, z + 32 is the datum height of every z that is not below it, and order, sum and difference
+-- of heights are those of the whole numbers that they stand for. Orders are compared by cases, under the plate's foot (h < 32) and over
+-- it; sums and differences are ℤ's own laws, since heightOf h is h - 32. Assumes nothing.
+use mathlib.Core.Path.{_≡_, refl, sym, ap, ap₂, _∙_}
 use mathlib.Core.Bool.{Bool, true, false, cond}
 use Prim.Native.Nat.{ℕ, zero, suc, _+_, _-_, _≤_, _<_}
 use native.Mathlib.Omega.{arith}
-use native.Mathlib.Decide.{decLt}
-use lib.Dec.{leb, ltb}
-use lib.IntN.{ℤ, pos, negsuc, negℤ, _+ℤ_, +ℤ-assoc, +ℤ-comm}
-use lib.Signed.{leZ, ltZ}
+use native.Mathlib.Decide.{decLt, decLe}
+use lib.Dec.{leb, ltb, le→leb, leb→le, lt→ltb, ltb→lt}
+use lib.IntN.{ℤ, pos, negsuc, negℤ, natAbs, _+ℤ_, _-ℤ_, +ℤ-assoc, +ℤ-comm, +ℤ-negℤ-cancel}
+use lib.Signed.{_≤ℤ_, _<ℤ_, leZ, ltZ, leZ-yes, ltZ-yes}
 use borrow.Author.Tests.{ltb-true, ltb-false, le-ltb, lt-ltb, le-leb, lt-leb}
 use Rattle.paper.specs.Table.{natural}
 use Rattle.plate.specs.Datum.{datum, heightOf}
 
-ltb-same : (a b c d : ℕ) → (a < b → c < d) → (c < d → a < b) → ltb a b ≡ ltb c d
-ltb-same a b c d f g = go (decLt a b) (decLt c d)
+-- tests that ask the same answer the same
+pub leb-same : (a b c d : ℕ) → (a ≤ b → c ≤ d) → (c ≤ d → a ≤ b) → leb a b ≡ leb c d
+leb-same a b c d f g = go (decLe a b) (decLe c d)
   where
-    go : Dec (a < b) → Dec (c < d) → ltb a b ≡ ltb c d
-    go (yes l) k = lt-ltb a b l ∙ sym (lt-ltb c d (f l))
+    go : Dec (a ≤ b) → Dec (c ≤ d) → leb a b ≡ leb c d
+    go (yes l) k = le-leb a b l ∙ sym (le-leb c d (f l))
     go (no l) (yes k) = absurd (l (g k))
-    go (no l) (no k) = le-ltb a b (omega arith) ∙ sym (le-ltb c d (omega arith))
+    go (no l) (no k) = lt-leb a b (omega arith) ∙ sym (lt-leb c d (omega arith))
+
+ltb-same : (a b c d : ℕ) → (a < b → c < d) → (c < d → a < b) → ltb a b ≡ ltb c d
+ltb-same a b c d f g = leb-same (suc a) b (suc c) d f g
 
 -- a height under 0, and one from 0 on
 under : (h : ℕ) → h < 32 → heightOf h ≡ negsuc (31 - h)
 under h l = ap (λ (b : Bool). cond b (negsuc (32 - suc h)) (pos (h - 32))) (lt-ltb h 32 l) ∙ ap negsuc (omega arith)
 
-over : (h : ℕ) → 32 ≤ h → heightOf h ≡ pos (h - 32)
+pub over : (h : ℕ) → 32 ≤ h → heightOf h ≡ pos (h - 32)
 over h l = ap (λ (b : Bool). cond b (negsuc (32 - suc h)) (pos (h - 32))) (le-ltb h 32 l)
 
 pub datum-height : (h : ℕ) → datum (heightOf h) ≡ h
@@ -67,6 +73,39 @@ above-height z h = go z (decLt h 32)
     go (pos n) (no l) = ap (λ (x : ℤ). ltZ x (pos n)) (over h (omega arith)) ∙ ltb-same (h - 32) n h (n + 32) (λ x. omega arith) (λ x. omega arith)
     go (negsuc n) (no l) = ap (λ (x : ℤ). ltZ x (negsuc n)) (over h (omega arith)) ∙ sym (le-ltb h (31 - n) (omega arith))
 
+-- what is above a height is higher over the datum
+pub datum-above : (h : ℕ) (z : ℤ) → heightOf h <ℤ z → h < datum z
+datum-above h z l = ltb→lt h (datum z) (rw (above-height z h) at (l .lt))
+
+-- orders of two heights
+pub lt-height : (h g : ℕ) → ltZ (heightOf h) (heightOf g) ≡ ltb h g
+lt-height h g = above-height (heightOf g) h ∙ ap (ltb h) (datum-height g)
+
+pub le-height : (h g : ℕ) → leZ (heightOf h) (heightOf g) ≡ leb h g
+le-height h g = go (decLt h 32) (decLt g 32)
+  where
+    go : Dec (h < 32) → Dec (g < 32) → leZ (heightOf h) (heightOf g) ≡ leb h g
+    go (yes l) (yes k) = ap₂ leZ (under h l) (under g k) ∙ leb-same (31 - g) (31 - h) h g (λ x. omega arith) (λ x. omega arith)
+    go (yes l) (no k) = ap₂ leZ (under h l) (over g (omega arith)) ∙ sym (le-leb h g (omega arith))
+    go (no l) (yes k) = ap₂ leZ (over h (omega arith)) (under g k) ∙ sym (lt-leb h g (omega arith))
+    go (no l) (no k) =
+        ap₂ leZ (over h (omega arith)) (over g (omega arith)) ∙ leb-same (h - 32) (g - 32) h g (λ x. omega arith) (λ x. omega arith)
+
+pub lt-up : (h g : ℕ) → h < g → heightOf h <ℤ heightOf g
+lt-up h g l = ltZ-yes (rw (lt-height h g) (lt→ltb h g l))
+
+pub lt-down : (h g : ℕ) → heightOf h <ℤ heightOf g → h < g
+lt-down h g l = ltb→lt h g (rw (lt-height h g) at (l .lt))
+
+pub le-up : (h g : ℕ) → h ≤ g → heightOf h ≤ℤ heightOf g
+le-up h g l = leZ-yes (rw (le-height h g) (le→leb h g l))
+
+pub le-down : (h g : ℕ) → heightOf h ≤ℤ heightOf g → h ≤ g
+le-down h g l = leb→le h g (rw (le-height h g) at (l .le))
+
+pub height-only : (h g : ℕ) → heightOf h ≡ heightOf g → h ≡ g
+height-only h g e = sym (datum-height h) ∙ ap datum e ∙ datum-height g
+
 -- document 01's numbers as heights, sums and differences of heights
 pub pos-height : (n : ℕ) → pos n ≡ heightOf (n + 32)
 pos-height n = sym (over (n + 32) (omega arith) ∙ ap pos (omega arith))
@@ -78,14 +117,15 @@ neg-height (suc n) l = sym (under (32 - suc n) (omega arith) ∙ ap negsuc (omeg
 pub sum-height : (h t : ℕ) → heightOf h +ℤ pos t ≡ heightOf (h + t)
 sum-height h t = +ℤ-assoc (pos h) (negsuc 31) (pos t) ∙ ap (λ (z : ℤ). pos h +ℤ z) (+ℤ-comm (negsuc 31) (pos t)) ∙ sym (+ℤ-assoc (pos h) (pos t) (negsuc 31))
 
+pub difference-height : (a b : ℕ) → a ≤ b → natAbs (heightOf b -ℤ heightOf a) ≡ b - a
+difference-height a b l = ap natAbs (ap (λ (z : ℤ). z -ℤ heightOf a) e ∙ +ℤ-negℤ-cancel (pos (b - a)) (heightOf a))
+  where
+    s : b ≡ a + (b - a)
+    s = omega arith
+
+    e : heightOf b ≡ pos (b - a) +ℤ heightOf a
+    e = ap heightOf s ∙ sym (sum-height a (b - a)) ∙ +ℤ-comm (heightOf a) (pos (b - a))
+
 -- a boundary at or below a voxel
 pub reach-height : (b h : ℕ) → leZ (pos b) (heightOf h) ≡ leb (b + 32) h
-reach-height b h = go (decLt h 32)
-  where
-    go : Dec (h < 32) → leZ (pos b) (heightOf h) ≡ leb (b + 32) h
-    go (yes l) = ap (leZ (pos b)) (under h l) ∙ sym (lt-leb (b + 32) h (omega arith))
-    go (no l) = ap (leZ (pos b)) (over h (omega arith)) ∙ at (decLt h (b + 32))
-      where
-        at : Dec (h < b + 32) → leb b (h - 32) ≡ leb (b + 32) h
-        at (yes k) = lt-leb b (h - 32) (omega arith) ∙ sym (lt-leb (b + 32) h k)
-        at (no k) = le-leb b (h - 32) (omega arith) ∙ sym (le-leb (b + 32) h (omega arith))
+reach-height b h = ap (λ (z : ℤ). leZ z (heightOf h)) (pos-height b) ∙ le-height (b + 32) h

@@ -1,6 +1,5 @@
--- What code over the sheets needs: heights under the lowest start have none, sums are bounded, counts are at most M,
--- and the step of the loop that fills an entry.
--- Assumes nothing.
+-- What code over the sheets needs: heights under the lowest start have none, sums are bounded, a height can have only so many counts and
+-- so few, and no sequence has more than M layers. Each by induction on the layers from the top down. Assumes nothing.
 use Prim.Native.Nat.{ℕ, zero, suc, _+_, _-_, _*_, _/_, _≤_, _<_}
 use mathlib.Core.Path.{_≡_, refl, sym, _∙_, ap, subst}
 use mathlib.Core.Logic.{_↔_}
@@ -72,31 +71,20 @@ count-pos p pos s a = go (s .layers) (a .built)
     go [] b = let x = b .to in let y = a .ends .from in absurd (omega arith)
     go (t ∷ ts) b = omega arith
 
--- an entry as the sheets hold it: `top` stands for none
-pub record Entry : Type 0 where
-  pub error : ℕ
-  pub last : ℕ
+-- and at least as many as the rise asks for
+pub count-high : (p : Rules) (h : ℕ) (ts : List ℕ) → Built p h ts → h ≤ 32 + length ts * p .tmax
+count-high p h [] b = let x = b .to in omega arith
+count-high p h (t ∷ ts) b =
+    let x = count-high p (h - t) ts (b .1) in
+    let y = b .0 .thin in
+    let z = b .0 .above in
+    omega arith
 
-abbrev pub mark : ℕ → Option ℕ → ℕ
-mark top none = top
-mark top (some e) = e
+-- the counts that a height can have
+pub least-many : (p : Rules) (lo : ℕ) → ((h t : ℕ) → Layer p h t → lo ≤ t) → (m h : ℕ) → h + p .tmax < m * lo + 33 → least p m h ≡ none
+least-many p lo f m h l =
+    least-none p m h .1 (λ ts e b. let x = count-low p lo f h ts b in let y : length ts * lo ≡ m * lo = ap (λ (k : ℕ). k * lo) e in omega arith)
 
-abbrev pub entry : ℕ → Best → Entry
-entry top nothing = record { error = top; last = 0 }
-entry top (found e t) = record { error = e; last = t }
-
-abbrev pub Under : ℕ → Best → Type 0
-Under top nothing = Unit {0}
-Under top (found e t) = e < top
-
--- the loop's test `if candidate < best`
-pub entry-step : (top : ℕ) (b : Best) (t : ℕ) (o : Option ℕ) → Under top b → ((e : ℕ) → o ≡ some e → e < top)
-    → entry top (better b t o) ≡ cond (ltb (mark top o) (entry top b .error)) (record { error = mark top o; last = t }) (entry top b)
-entry-step top nothing t none u f = simp (le-ltb top top (omega arith))
-entry-step top (found e₀ t₀) t none u f = simp (le-ltb top e₀ (omega arith))
-entry-step top nothing t (some e) u f = simp (lt-ltb e top (f e refl))
-entry-step top (found e₀ t₀) t (some e) u f = go (ltb e e₀)
-  where
-    go : (c : Bool) → entry top (cond c (found e t) (found e₀ t₀)) ≡ cond c (record { error = e; last = t }) (record { error = e₀; last = t₀ })
-    go true = refl
-    go false = refl
+pub least-few : (p : Rules) (m h : ℕ) → 32 + m * p .tmax < h → least p m h ≡ none
+least-few p m h l =
+    least-none p m h .1 (λ ts e b. let x = count-high p h ts b in let y : length ts * p .tmax ≡ m * p .tmax = ap (λ (k : ℕ). k * p .tmax) e in omega arith)

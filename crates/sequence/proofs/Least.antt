@@ -12,6 +12,7 @@ use lib.Dec.{ltb, leb}
 use lib.ListN.{length}
 use borrow.Author.Tests.{ltb-true, ltb-false, leb-true, lt-ltb, le-leb}
 use Rattle.lists.specs.Best.{Best, nothing, found, value, place, better, bestOf}
+use Rattle.paper.proofs.Thicknesses.{and-true}
 use Rattle.sequence.specs.Sequence.{Rules, Starts, Layer, Built, errorOf, First}
 use Rattle.sequence.specs.Least.{plus, via, least, last, walk}
 use Rattle.lists.proofs.Best.{Beats, nothing-not-found, none-not-some, best-in, best-beats}
@@ -20,11 +21,6 @@ use Rattle.lists.proofs.Best.{Beats, nothing-not-found, none-not-some, best-in,
 abbrev pub AtMost : Option ℕ → ℕ → Type 0
 AtMost none e = ⊥
 AtMost (some e₀) e = e₀ ≤ e
-
-pub and-true : (a b : Bool) → a && b ≡ true → (a ≡ true) × (b ≡ true)
-and-true true true p = (refl, refl)
-and-true true false p = (refl, p)
-and-true false b p = (p, cc)
 
 -- starts
 pub starts-some : (p : Rules) (h : ℕ) → Starts p h → least p 0 h ≡ some 0

@@ -2,3 +2,5 @@ pub mod Order
 pub mod Least
 pub mod Choice
 pub mod Bounds
+pub mod Marks
+pub mod Sheets

@@ -1,3 +1,4 @@
 pub mod Sequence
 pub mod Least
 pub mod Rules
+pub mod Sheets

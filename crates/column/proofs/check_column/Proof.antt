@@ -1,5 +1,4 @@
 -- `check_column` meets its contract: its tests are the two checks, in their order. Assumes nothing.
-use mathlib.Core.Path.{_≡_}
 use borrow.Author.Needs.{needs}
 use borrow.Author.Tests.{lt-ltb, le-ltb, eq-eqb, ne-eqb}
 use Rattle.column.specs.Order.{columnChecks}

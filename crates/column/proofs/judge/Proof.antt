@@ -1,10 +1,9 @@
 -- `judge` meets its contract: the inside voxels are counted, and what is judged of them is document 01's. Assumes nothing.
-use mathlib.Core.Path.{_≡_, refl, sym, ap, ap₂, _∙_, subst}
-use Prim.Native.Nat.{ℕ, _+_, _≤_}
+use mathlib.Core.Path.{_≡_, ap, ap₂, _∙_}
+use Prim.Native.Nat.{ℕ, _≤_}
 use native.Mathlib.Omega.{arith}
 use borrow.Author.Needs.{needs}
 use Rattle.column.specs.Inside.{inside, judgedOf}
-use Rattle.column.specs.declared.Judged.{Judged}
 use Rattle.column.proofs.Shares.{judged-is}
 use Rattle.column.proofs.judge.Statement.{statement}
 use Rattle.column.proofs.judge.Tie as tie

@@ -1,15 +1,13 @@
 -- `picture` meets its contract: refusals 1 and 2 of the settings, and then those of `picture_of`. Assumes nothing.
-use mathlib.Core.Path.{_≡_, refl, sym, ap, _∙_, subst}
+use mathlib.Core.Path.{_≡_, sym, ap, _∙_, subst}
 use mathlib.Core.List.{List, _++_}
-use mathlib.Core.Option.{none}
 use Prim.Native.Nat.{ℕ}
 use borrow.Author.Needs.{needs}
 use lib.IntN.{ℤ}
 use mir.Syntax.{w32}
 use mir.ValLaws.{toZ-ofZ}
-use Rattle.lists.specs.Checks.{first}
-use Rattle.plate.specs.Refusal.{Told, numberOf, refused, decided}
-use Rattle.plate.specs.Settings.{Passed, Sound, settingsChecks, settingsOf, toldMade}
+use Rattle.plate.specs.Refusal.{numberOf, refused, decided}
+use Rattle.plate.specs.Settings.{Passed, settingsChecks, settingsOf, toldMade}
 use Rattle.plate.specs.declared.refusal.Reason.{Reason}
 use Rattle.plate.specs.declared.settings.Made.{Made}
 use Rattle.plate.specs.declared.settings.Made.the-variants.{Good, Bad}
@@ -17,7 +15,6 @@ use Rattle.plate.specs.declared.settings.Settings.{Settings}
 use Rattle.plate.proofs.Decided.{settings-bad, settings-good}
 use Rattle.column.specs.Order.{columnChecks}
 use Rattle.column.specs.Picture.{layerChecks, judgement, toldPicture, pictureChecks, pictureAnswer}
-use Rattle.column.specs.declared.Judged.{Judged}
 use Rattle.column.proofs.picture.Statement.{statement}
 use Rattle.column.proofs.picture.Tie as tie
 

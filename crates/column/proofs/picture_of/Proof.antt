@@ -1,20 +1,19 @@
 -- `picture_of` meets its contract: the column's own checks, the start against the table's, the thickness against T, and then the
 -- judgement at the start's datum height, which stands for the start. Assumes nothing.
-use mathlib.Core.Path.{_≡_, refl, sym, ap, ap₂, _∙_, subst}
-use mathlib.Core.Bool.{Bool, true, false, not}
+use mathlib.Core.Path.{_≡_, sym, ap, _∙_}
+use mathlib.Core.Bool.{true, false}
 use mathlib.Core.List.{List, _++_}
-use mathlib.Core.Option.{Option, none, some}
-use Prim.Native.Nat.{ℕ, _+_, _-_, _≤_, _<_}
+use mathlib.Core.Option.{none}
+use Prim.Native.Nat.{ℕ, _+_, _≤_}
 use native.Mathlib.Omega.{arith}
 use borrow.Author.Needs.{needs}
 use lib.IntN.{ℤ}
 use Rattle.lists.specs.Checks.{first}
 use Rattle.paper.specs.Layer.{allowed, tmax}
-use Rattle.plate.specs.Refusal.{Told, done, refused, refusal, decided}
+use Rattle.plate.specs.Refusal.{done, refused, refusal, decided}
 use Rattle.plate.specs.declared.refusal.Refusal.{Refusal}
 use Rattle.plate.specs.declared.refusal.Checked.the-variants.{Refused}
 use Rattle.plate.specs.Datum.{datum, heightOf}
-use Rattle.plate.specs.Settings.{Sound}
 use Rattle.plate.specs.Checked.{saidBy}
 use Rattle.paper.proofs.Thicknesses.{allowed-to}
 use Rattle.plate.proofs.Datum.{height-datum}

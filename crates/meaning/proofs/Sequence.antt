@@ -1,0 +1,126 @@
+-- One layer, the two ends and the order of sequences, as document 01 has them and as they are worked with: each is the same thing said
+-- at heightOf h and at h, so each is carried over by the laws of the datum. Both orders compare the layers from the last down.
+-- Assumes nothing.
+use Prim.Native.Nat.{ℕ, zero, suc, _+_, _-_, _≤_, _<_}
+use mathlib.Core.Path.{_≡_, refl, sym, ap, _∙_}
+use mathlib.Core.Logic.{inl, inr}
+use mathlib.Core.Bool.{true}
+use mathlib.Core.List.{List, [], _∷_}
+use native.Mathlib.Omega.{arith}
+use lib.Dec.{leb}
+use lib.ListN.{length}
+use lib.IntN.{ℤ, pos, negℤ, natAbs, _-ℤ_}
+use lib.Signed.{_≤ℤ_, _<ℤ_}
+use borrow.Author.Tests.{leb-true, le-leb}
+use Rattle.paper.specs.Layer.{Plate, allowed, tmax}
+use Rattle.paper.specs.Sequence.{_!_, thickness, Thinner, Before}
+use Rattle.paper.proofs.Thicknesses.{and-true, tmax-le, allowed-tmax}
+use Rattle.plate.specs.Datum.{datum, heightOf}
+use Rattle.plate.proofs.Datum.{le-up, le-down, lt-up, lt-down, height-only, difference-height, pos-height, neg-height, datum-above}
+use Rattle.sequence.specs.Sequence as working
+use Rattle.sequence.specs.Rules.{shape}
+use Rattle.sequence.proofs.Sheets.{shape-allowed}
+use Rattle.meaning.specs.Working.{rulesOf}
+
+-- ---- one layer
+
+-- what holds between each boundary and the next, from the lowest up, holds at each place
+abbrev pub Steps : (ℤ → ℤ → Type 0) → ℤ → List ℤ → Type 0
+Steps P a [] = Unit {0}
+Steps P a (b ∷ bs) = P a b × Steps P b bs
+
+pub step-at : (P : ℤ → ℤ → Type 0) (a : ℤ) (bs : List ℤ) → Steps P a bs → (k : ℕ) → k < length bs → P ((a ∷ bs) ! k) ((a ∷ bs) ! suc k)
+step-at P a [] s k l = absurd (omega arith)
+step-at P a (b ∷ bs) s zero l = s .0
+step-at P a (b ∷ bs) s (suc k) l = step-at P b bs (s .1) k (omega arith)
+
+-- what is above -tmax, counted from the datum
+pub start-datum : (T : ℕ) (z : ℤ) → negℤ (pos (tmax T)) <ℤ z → 32 - tmax T < datum z
+start-datum T z l = datum-above (32 - tmax T) z (rw (neg-height (tmax T) (tmax-le T)) at l)
+
+module _ (p : Plate) (bound : ℕ) where
+  -- a layer from a to b, and the same as it is worked with
+  pub record Step (a b : ℤ) : Type 0 where
+    pub rises : a <ℤ b
+    pub member : allowed (p .T) (natAbs (b -ℤ a)) ≡ true
+    pub within : p .layerError a (natAbs (b -ℤ a)) ≤ bound
+
+  pub record WorkingStep (a b : ℕ) : Type 0 where
+    pub rises : a < b
+    pub thin : b - a ≤ tmax (p .T)
+    pub permitted : rulesOf p bound .may a (b - a) ≡ true
+
+  pub step-up : (a b : ℕ) → WorkingStep a b → Step (heightOf a) (heightOf b)
+  step-up a b s =
+      let d = difference-height a b (omega (arith, s .rises)) in
+      let m = and-true (shape (p .N) (p .T) a (b - a)) (leb (p .layerError (heightOf a) (b - a)) bound) (s .permitted) in
+      record { rises = lt-up a b (s .rises); member = rw d (shape-allowed (p .N) (p .T) a (b - a) (m .0)); within = rw d (leb-true _ _ (m .1)) }
+
+  pub step-down : (a b : ℕ) → Step (heightOf a) (heightOf b) → WorkingStep a b
+  unfolding shape
+  step-down a b s =
+      let l = lt-down a b (s .rises) in
+      let d = difference-height a b (omega arith) in
+      let m = rw d at (s .member) in
+      let w = rw d at (s .within) in
+      record { rises = l; thin = allowed-tmax (p .T) (b - a) m; permitted = simp (m, le-leb (p .layerError (heightOf a) (b - a)) bound w) }
+
+  -- ---- the two ends
+
+  pub starts-up : (h : ℕ) → working.Starts (rulesOf p bound) h → (negℤ (pos (tmax (p .T))) <ℤ heightOf h) × (heightOf h ≤ℤ pos 0)
+  starts-up h s = (
+    rw (neg-height (tmax (p .T)) (tmax-le (p .T))) (lt-up (32 - tmax (p .T)) h (let f = s .from in let m = tmax-le (p .T) in omega arith)),
+    rw (pos-height 0) (le-up h 32 (s .to)),
+  )
+
+  pub starts-down : (h : ℕ) → negℤ (pos (tmax (p .T))) <ℤ heightOf h → heightOf h ≤ℤ pos 0 → working.Starts (rulesOf p bound) h
+  starts-down h l m =
+      let f = lt-down (32 - tmax (p .T)) h (rw (neg-height (tmax (p .T)) (tmax-le (p .T))) at l) in
+      record { from = omega arith; to = le-down h 32 m }
+
+  pub ends-up : (h : ℕ) → working.Ends (rulesOf p bound) h → (pos (p .N) ≤ℤ heightOf h) × (heightOf h <ℤ pos (p .N + tmax (p .T)))
+  ends-up h e = (
+    rw (pos-height (p .N)) (le-up (p .N + 32) h (e .from)),
+    rw (pos-height (p .N + tmax (p .T))) (lt-up h (p .N + tmax (p .T) + 32) (omega (arith, e .to))),
+  )
+
+  pub ends-down : (h : ℕ) → pos (p .N) ≤ℤ heightOf h → heightOf h <ℤ pos (p .N + tmax (p .T)) → working.Ends (rulesOf p bound) h
+  ends-down h l m =
+      let f = lt-down h (p .N + tmax (p .T) + 32) (rw (pos-height (p .N + tmax (p .T))) at m) in
+      record { from = le-down (p .N + 32) h (rw (pos-height (p .N)) at l); to = omega arith }
+
+-- ---- the order
+
+-- the thicknesses of the layers under zk, from the last down
+abbrev pub layersUnder : List ℤ → ℕ → List ℕ
+layersUnder zs zero = []
+layersUnder zs (suc k) = thickness zs k ∷ layersUnder zs k
+
+pub length-under : (zs : List ℤ) (k : ℕ) → length (layersUnder zs k) ≡ k
+length-under zs zero = refl
+length-under zs (suc k) = ap suc (length-under zs k)
+
+pub thinner-first : (xs ys : List ℤ) (k : ℕ) → Thinner xs ys k → working.First (layersUnder xs k) (layersUnder ys k)
+thinner-first xs ys zero t = tt
+thinner-first xs ys (suc k) (inl l) = inl l
+thinner-first xs ys (suc k) (inr t) = inr (t .0, thinner-first xs ys k (t .1))
+
+pub first-thinner : (xs ys : List ℤ) (k : ℕ) → working.First (layersUnder xs k) (layersUnder ys k) → Thinner xs ys k
+first-thinner xs ys zero t = tt
+first-thinner xs ys (suc k) (inl l) = inl l
+first-thinner xs ys (suc k) (inr t) = inr (t .0, first-thinner xs ys k (t .1))
+
+-- the n layers of zs are the sequence s, from its top down
+pub record Down (n : ℕ) (zs : List ℤ) (s : working.Sequence) : Type 0 where
+  pub top : zs ! n ≡ heightOf (s .top)
+  pub layers : layersUnder zs n ≡ s .layers
+
+pub before-up : (n : ℕ) (xs ys : List ℤ) (s r : working.Sequence) → Down n xs s → Down n ys r → working.Before s r → Before n xs ys
+before-up n xs ys s r d e (inl l) = inl (rw (d .top, e .top) (lt-up (s .top) (r .top) l))
+before-up n xs ys s r d e (inr f) =
+    inr (d .top ∙ ap heightOf (f .0) ∙ sym (e .top), first-thinner xs ys n (rw (d .layers, e .layers) (f .1)))
+
+pub before-down : (n : ℕ) (xs ys : List ℤ) (s r : working.Sequence) → Down n xs s → Down n ys r → Before n xs ys → working.Before s r
+before-down n xs ys s r d e (inl l) = inl (lt-down (s .top) (r .top) (rw (d .top, e .top) at l))
+before-down n xs ys s r d e (inr f) =
+    inr (height-only (s .top) (r .top) (sym (d .top) ∙ f .0 ∙ e .top), rw (d .layers, e .layers) at (thinner-first xs ys n (f .1)))

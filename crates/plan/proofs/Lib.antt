@@ -1,0 +1,4 @@
+pub mod Places
+pub mod Ends
+pub mod Walks
+pub mod Answers

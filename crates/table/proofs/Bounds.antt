@@ -1,0 +1,74 @@
+-- Cells in bounds: what the searches for 6 and 9 tell of every cell where they find none, and that sums and differences then fit.
+-- Assumes nothing.
+use mathlib.Core.Path.{_≡_, refl, sym, ap, _∙_, subst}
+use mathlib.Core.Bool.{Bool, true, false, _&&_, _||_}
+use mathlib.Core.List.{List, [], _∷_}
+use mathlib.Core.Option.{none}
+use Prim.Native.Nat.{ℕ, _+_, _-_, _%_, _≤_, _<_}
+use native.Mathlib.Nat.{mod-lt}
+use native.Mathlib.Omega.{arith}
+use borrow.Author.Tests.{ltb-false}
+use lib.Dec.{ltb}
+use lib.ListN.{length, getD}
+use Rattle.lists.specs.Checks.{first}
+use Rattle.lists.proofs.Checks.{first-none}
+use Rattle.lists.proofs.Search.{lowest-before}
+use Rattle.paper.specs.Layer.{tmax}
+use Rattle.paper.specs.Table.{cells, limit, thicknessAt}
+use Rattle.table.specs.Cells.{outOfBounds, firstOut, addend, overfull, firstOverfull, notPart, firstNotPart}
+use Rattle.table.specs.Calls.{outCell, pairOut}
+use Rattle.table.proofs.Limits.{limit-le}
+
+or-false : (a b : Bool) → a || b ≡ false → (a ≡ false) × (b ≡ false)
+or-false true b e = absurd (let z : _≡_ {A = ℕ} 0 1 = cc in omega arith)
+or-false false b e = (refl, e)
+
+pub thickness-le : (T i : ℕ) → 1 ≤ tmax T → thicknessAt T i ≤ tmax T
+unfolding thicknessAt
+thickness-le T i l = let u = mod-lt i l in omega arith
+
+module _ (N T c : ℕ) (table : List ℕ) where
+  -- no cell is out of bounds
+  pub all-within : cells N T ≤ firstOut N T c table → (i : ℕ) → i < cells N T → getD table i 0 ≤ limit T c (thicknessAt T i)
+  unfolding firstOut outOfBounds
+  all-within h i l = ltb-false (limit T c (thicknessAt T i)) (getD table i 0) (lowest-before (outOfBounds T c table) (cells N T) i (omega arith))
+
+  module _ (some : 1 ≤ tmax T) (few : tmax T ≤ 32) where
+    pub within-small : c ≤ 1_000_000 → cells N T ≤ firstOut N T c table → (i : ℕ) → i < cells N T → getD table i 0 ≤ 16_000_000
+    within-small u h i l =
+        let a = all-within h i l in
+        let b = limit-le T c (thicknessAt T i) u (let t = thickness-le T i some in omega arith) in
+        omega arith
+
+  pub pair-within : (c′ : ℕ) (other : List ℕ) → none ≡ first (pairOut N T c table c′ other) → (cells N T ≤ firstOut N T c table) × (cells N T ≤ firstOut N T c′ other)
+  unfolding pairOut outCell
+  pair-within c′ other e =
+      let q = first-none (pairOut N T c table c′ other) .0 (sym e) in
+      (ltb-false _ _ (q .0), ltb-false _ _ (q .1 .0))
+
+module _ (N T c : ℕ) (table bs : List ℕ) where
+  pub overfull-fits : cells N T ≤ firstOverfull N T c table bs → 1 ≤ tmax T → tmax T ≤ 32 → c ≤ 1_000_000
+      → ((i : ℕ) → addend T bs i ≤ 32) → (i : ℕ) → i < cells N T → getD table i 0 < 4294967296 → getD table i 0 + addend T bs i < 4294967296
+  unfolding firstOverfull overfull outOfBounds
+  overfull-fits h some few u small i l w = go (ltb 0 (addend T bs i)) refl (lowest-before (overfull T c table bs) (cells N T) i (omega arith))
+    where
+      go : (b : Bool) → ltb 0 (addend T bs i) ≡ b → b && ltb (limit T c (thicknessAt T i)) (getD table i 0) ≡ false → getD table i 0 + addend T bs i < 4294967296
+      go true e q =
+          let x = ltb-false (limit T c (thicknessAt T i)) (getD table i 0) q in
+          let y = limit-le T c (thicknessAt T i) u (let t = thickness-le T i some in omega arith) in
+          let z = small i in
+          omega arith
+      go false e q = let z = ltb-false 0 (addend T bs i) e in omega arith
+
+module _ (N T d : ℕ) (table other : List ℕ) where
+  pub part-le : cells N T ≤ firstNotPart N T d table other → (i : ℕ) → i < cells N T → getD other i 0 ≤ getD table i 0
+  unfolding firstNotPart notPart
+  part-le h i l =
+      ltb-false _ _
+      (or-false (ltb (getD table i 0) (getD other i 0)) (ltb (limit T d (thicknessAt T i)) (getD table i 0 - getD other i 0)) (lowest-before (notPart T d table other) (cells N T) i (omega arith)) .0)
+
+  pub part-within : cells N T ≤ firstNotPart N T d table other → (i : ℕ) → i < cells N T → getD table i 0 - getD other i 0 ≤ limit T d (thicknessAt T i)
+  unfolding firstNotPart notPart
+  part-within h i l =
+      ltb-false _ _
+      (or-false (ltb (getD table i 0) (getD other i 0)) (ltb (limit T d (thicknessAt T i)) (getD table i 0 - getD other i 0)) (lowest-before (notPart T d table other) (cells N T) i (omega arith)) .1)

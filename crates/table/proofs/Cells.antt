@@ -1,0 +1,86 @@
+-- The cells of a row: the cell at the place j of a row has thickness j + 1 and the row's start, so what is tested in a row against the
+-- limits is what document 01 asks of the cell's index. Assumes nothing.
+use mathlib.Core.Path.{_≡_, refl, sym, ap, ap₂, _∙_, subst}
+use mathlib.Core.Bool.{Bool, true, false, cond, _&&_, _||_}
+use mathlib.Core.List.{List}
+use Prim.Native.Nat.{ℕ, _+_, _-_, _*_, _/_, _%_, _≤_, _<_}
+use native.Mathlib.Omega.{arith}
+use lib.Arith.{digits-lt, digits-div, digits-mod}
+use lib.Dec.{ltb}
+use lib.IntN.{ℤ, pos, _+ℤ_, _-ℤ_, +ℤ-comm}
+use lib.ListN.{getD}
+use Rattle.paper.specs.Layer.{allowed, tmax, share}
+use Rattle.paper.specs.Table.{rows, cells, startAt, thicknessAt, cellOf, limit}
+use Rattle.plate.specs.Datum.{heightOf}
+use Rattle.plate.specs.Settings.{Sound}
+use Rattle.plate.specs.declared.settings.Settings.{Settings}
+use Rattle.plate.proofs.Datum.{neg-height, sum-height}
+use Rattle.column.proofs.Shares.{share-le}
+use Rattle.table.specs.Cells.{outOfBounds, addend, overfull, notPart}
+use Rattle.table.specs.Limits.{Limits, above, heaped, apart}
+
+module _ (T m r j : ℕ) (e : m ≡ tmax T) (l : j < m) where
+  pub thickness-row : thicknessAt T (r * m + j) ≡ j + 1
+  unfolding thicknessAt
+  thickness-row = rw (← e) (ap (λ (x : ℕ). x + 1) (digits-mod r l))
+
+  pub start-row : m ≤ 32 → startAt T (r * m + j) ≡ heightOf (r + 33 - m)
+  unfolding startAt
+  start-row u =
+      let a : 32 - (m - 1) + r ≡ r + 33 - m = omega arith in
+      rw (← e)
+      (ap (λ (x : ℕ). pos x -ℤ pos (m - 1)) (digits-div r l)
+      ∙ ap (λ (z : ℤ). pos r +ℤ z) (neg-height (m - 1) (omega arith))
+      ∙ +ℤ-comm (pos r) (heightOf (32 - (m - 1)))
+      ∙ sum-height (32 - (m - 1)) r
+      ∙ ap heightOf a)
+
+  pub addend-allowed : (bs : List ℕ) → m ≤ 32 → allowed T (j + 1) ≡ true → addend T bs (r * m + j) ≡ share bs (heightOf (r + 33 - m)) (j + 1)
+  unfolding addend cellOf
+  addend-allowed bs u a = rw (thickness-row, start-row u, a)
+
+  pub addend-barred : (bs : List ℕ) → allowed T (j + 1) ≡ false → addend T bs (r * m + j) ≡ 0
+  unfolding addend cellOf
+  addend-barred bs a = rw (thickness-row, a)
+
+  module _ (c : ℕ) (limits : List ℕ) (are : Limits T c limits) (few : m ≤ 32) where
+    limit-row : limit T c (thicknessAt T (r * m + j)) ≡ getD limits j 0
+    limit-row = ap (limit T c) thickness-row ∙ sym (are .are j (omega arith))
+
+    pub out-row : (table : List ℕ) → outOfBounds T c table (r * m + j) ≡ above limits table (r * m) j
+    unfolding outOfBounds above
+    out-row table = ap (λ (x : ℕ). ltb x (getD table (r * m + j) 0)) limit-row
+
+    pub overfull-row : (table bs : List ℕ) → overfull T c table bs (r * m + j) ≡ heaped T limits table bs (r * m) j
+    unfolding overfull outOfBounds heaped
+    overfull-row table bs = ap (λ (x : ℕ). ltb 0 (addend T bs (r * m + j)) && ltb x (getD table (r * m + j) 0)) limit-row
+
+    pub part-row : (table other : List ℕ) → notPart T c table other (r * m + j) ≡ apart limits table other (r * m) j
+    unfolding notPart apart
+    part-row table other =
+        ap (λ (x : ℕ). ltb (getD table (r * m + j) 0) (getD other (r * m + j) 0) || ltb x (getD table (r * m + j) 0 - getD other (r * m + j) 0)) limit-row
+
+-- what a column adds is at most half of the layer
+pub addend-le : (T i : ℕ) (bs : List ℕ) → addend T bs i ≤ thicknessAt T i / 2
+unfolding addend cellOf
+addend-le T i bs = go (allowed T (thicknessAt T i))
+  where
+    go : (b : Bool) → cond b (share bs (startAt T i) (thicknessAt T i)) 0 ≤ thicknessAt T i / 2
+    go true = share-le bs (startAt T i) (thicknessAt T i)
+    go false = omega arith
+
+-- the cells of a row lie in the table
+module _ {s : Settings} (k : Sound s) (r : ℕ) (l : r < s .rows) where
+  pub cell-in : (j : ℕ) → j < s .tmax → r * s .tmax + j < s .cells
+  cell-in j u = rw (k .cells-are) (digits-lt l u)
+
+  pub row-in : r * s .tmax + s .tmax ≤ s .cells
+  row-in = let h = k .thin in let o = k .order in let i = cell-in (s .tmax - 1) (omega arith) in omega arith
+
+  pub cell-fits : (j : ℕ) → j < s .tmax → r * s .tmax + j < 18_368
+  cell-fits j u = let i = cell-in j u in omega (arith, k .few-cells)
+
+-- the number of cells is as the settings have it
+pub cells-sound : {s : Settings} → Sound s → cells (s .height) (s .«set») ≡ s .cells
+unfolding cells rows
+cells-sound {s} k = rw (← k .greatest) (sym (k .cells-are ∙ ap (λ (x : ℕ). x * s .tmax) (k .rows-are)))

@@ -1,0 +1,4 @@
+pub mod Cells
+pub mod Tabled
+pub mod Calls
+pub mod Limits
