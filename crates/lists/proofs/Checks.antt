@@ -70,3 +70,12 @@ module _ {R : Type 0} where
   -- THE LAW
   pub first-exactly : (cs : List (Check R)) (r : R) → (first cs ≡ some r) ↔ Given cs r
   first-exactly cs r = (first-given cs r, given-first cs r)
+
+  -- where nothing is said of two lists, nothing is said of the second
+  pub first-later : (cs ds : List (Check R)) → first (cs ++ ds) ≡ none → first ds ≡ none
+  first-later [] ds e = e
+  first-later (c ∷ cs) ds e = go (c .holds) e (first-later cs ds)
+    where
+      go : (b : Bool) → cond b (some (c .says)) (first (cs ++ ds)) ≡ none → (first (cs ++ ds) ≡ none → first ds ≡ none) → first ds ≡ none
+      go true q k = absurd (let z : _≡_ {A = ℕ} 0 1 = cc in omega arith)
+      go false q k = k q

@@ -1,2 +1,4 @@
 pub mod Reading
 pub mod Walking
+pub mod Planning
+pub mod Plan

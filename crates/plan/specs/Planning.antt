@@ -1,0 +1,47 @@
+-- What a plan fills over a table: the rules that the table's cells give, the two sheets, and the list. Assumes nothing.
+use Prim.Native.Nat.{ℕ, zero, suc, _+_, _-_, _*_, _≤_, _<_}
+use mathlib.Core.Path.{_≡_}
+use mathlib.Core.Bool.{Bool, cond, _&&_}
+use mathlib.Core.List.{List}
+use lib.Dec.{leb, ltb}
+use lib.ListN.{length, getD}
+use Rattle.lists.specs.Best.{Best, nothing, found, value, bestOf}
+use Rattle.lists.specs.Rewrite.{rewritten}
+use Rattle.paper.specs.Layer.{tmax}
+use Rattle.paper.specs.Sequence.{M}
+use Rattle.paper.specs.Sheets.{entries}
+use Rattle.plate.specs.Settings.{Sound}
+use Rattle.plate.specs.declared.settings.Settings.{Settings}
+use Rattle.sequence.specs.Sequence.{Rules}
+use Rattle.sequence.specs.Least.{via, least, leastOf}
+use Rattle.sequence.specs.Rules.{rules}
+use Rattle.sequence.specs.Sheets.{mark, errorEntry, thicknessEntry}
+
+-- the cell of the layer from the datum height h of thickness t
+unfoldable pub tableCell : ℕ → List ℕ → ℕ → ℕ → ℕ
+tableCell T table h t = getD table ((h + tmax T - 33) * tmax T + (t - 1)) 0
+
+-- the rules that a table is planned by
+unfoldable pub planRules : ℕ → ℕ → ℕ → List ℕ → Rules
+planRules N T bound table = rules N T bound (tableCell T table)
+
+-- the best of m layers that end at h with a last layer of at most k: what stands in the sheets while a row is being filled
+unfoldable pub bestTo : Rules → ℕ → ℕ → ℕ → Best
+bestTo p zero h k = cond (ltb 32 (h + p .tmax) && leb h 32) (found 0 0) nothing
+bestTo p (suc m) h k = bestOf (λ t. via p (λ g. least p m g) h t) 1 k
+
+-- the sheets and the list that a plan leaves in buffers that held these numbers
+unfoldable pub plannedErrors : ℕ → ℕ → Rules → List ℕ → List ℕ
+plannedErrors N T p old = rewritten (λ i x. errorEntry N T p i) (entries N T) old
+
+unfoldable pub plannedThicknesses : ℕ → ℕ → Rules → List ℕ → List ℕ
+plannedThicknesses N T p old = rewritten (λ i x. thicknessEntry N T p i) (entries N T) old
+
+unfoldable pub plannedList : ℕ → ℕ → Rules → List ℕ → List ℕ
+plannedList N T p old = rewritten (λ i x. mark (leastOf p (i + 1))) (M N T) old
+
+-- what planning needs of a table: it is whole, and its cells are small enough that no sum leaves an entry
+pub record Ready (s : Settings) (table : List ℕ) : Type 0 where
+  pub sound : Sound s
+  pub size : s .cells ≤ length table
+  pub small : (i : ℕ) → i < s .cells → getD table i 0 ≤ 16_000_000

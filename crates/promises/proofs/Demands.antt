@@ -1,0 +1,74 @@
+-- The mission, demand by demand, each one theorem over document 01's own definitions. Assumes nothing.
+use mathlib.Core.Path.{_≡_, refl, sym, ap, ap₂, _∙_, subst}
+use mathlib.Core.Logic.{_⊎_, inl, inr}
+use mathlib.Core.List.{List, [], _∷_, _++_}
+use mathlib.Core.Option.{none}
+use Prim.Native.Nat.{ℕ, _+_, _-_, _≤_, _<_}
+use native.Mathlib.Omega.{arith}
+use borrow.Author.Tests.{le-ltb}
+use lib.IntN.{ℤ}
+use lib.ListN.{length, getD}
+use Rattle.lists.specs.Checks.{first}
+use Rattle.paper.specs.Layer as paper
+use Rattle.paper.specs.Layer.{ofColumns}
+use Rattle.paper.specs.Table.{cells, mostColumns, InBounds, Table, cellAt, ofTable}
+use Rattle.paper.specs.Sequence.{M, Chosen, None, error}
+use Rattle.paper.specs.Sheets.{entries}
+use Rattle.plate.specs.Refusal.{Told, done, refused, decided, after}
+use Rattle.plate.proofs.Decided.{settings-good, after-done}
+use Rattle.table.specs.Calls.{short, outCell}
+use Rattle.plan.specs.Plan.{Sheets, boundChecks, planRest, planAnswer, planned, planSheets}
+use Rattle.plan.specs.Reading.{readAnswer, readOut}
+use Rattle.meaning.proofs.Table.{table-agrees, table-chosen, table-none}
+use Rattle.meaning.proofs.Usable.{same-error}
+use Rattle.promises.specs.Plans.{Answers}
+use Rattle.promises.proofs.Fine.{settings-fine, out-fine}
+use Rattle.promises.proofs.Plans.{plan-reads}
+
+-- a table in bounds and buffers with room: the plan is done, and M is its answer
+pub record Room (N T : ℕ) (lent : Sheets) : Type 0 where
+  pub errors : entries N T ≤ length (lent .errors)
+  pub thicknesses : entries N T ≤ length (lent .thicknesses)
+  pub leasts : M N T ≤ length (lent .leasts)
+
+module _ (N T : ℕ) (settings : paper.Settings N T) where
+  pub plan-done : (c : ℕ) (table : List ℕ) (lent : Sheets) → InBounds N T c table → Room N T lent → planAnswer N T c table lent ≡ done (M N T)
+  unfolding planAnswer planRest boundChecks short outCell
+  plan-done c table lent b r =
+      let e = out-fine N T c table (b .bounded) in
+      sym (settings-good N T (planRest N T c table lent) (M N T) (settings-fine N T settings))
+      ∙ simp
+      (le-ltb (length table) (cells N T) (b .size), le-ltb (length (lent .errors)) (entries N T) (r .errors), le-ltb (length (lent .thicknesses)) (entries N T) (r .thicknesses), le-ltb (length (lent .leasts)) (M N T) (r .leasts), le-ltb mostColumns c (b .columns), e, le-ltb (cells N T) (cells N T) (omega arith))
+
+  pub plan-leaves : (c : ℕ) (table : List ℕ) (bound : ℕ) (lent : Sheets) → InBounds N T c table → Room N T lent → planSheets N T c table bound lent ≡ planned N T bound table lent
+  unfolding planSheets
+  plan-leaves c table bound lent b r = ap (λ (t : Told ℕ). after t (planned N T bound table lent) lent) (plan-done c table lent b r)
+
+  -- DEMAND 2, for every table in bounds: after a plan, reading back a count from 1 to M answers the chosen sequence and its error, or 11
+  -- exactly when no admissible sequence has that count, and never 12
+  pub demand-2 : (c : ℕ) (table : List ℕ) (bound : ℕ) (lent : Sheets) → InBounds N T c table → bound < 4_294_967_296 → Room N T lent
+      → (n : ℕ) → 1 ≤ n → n ≤ M N T → (out : List ℤ) → n < length out
+      → Answers (ofTable N T table) bound n (readAnswer N T (planSheets N T c table bound lent .errors) (planSheets N T c table bound lent .thicknesses) n (length out)) out
+      (readOut N T (planSheets N T c table bound lent .errors) (planSheets N T c table bound lent .thicknesses) n out)
+  demand-2 c table bound lent b small r n low high out room =
+      subst (λ (s : Sheets). Answers (ofTable N T table) bound n (readAnswer N T (s .errors) (s .thicknesses) n (length out)) out (readOut N T (s .errors) (s .thicknesses) n out))
+      (sym (plan-leaves c table bound lent b r))
+      (plan-reads N T bound settings small table lent (r .errors) (r .thicknesses) (r .leasts) n low high out room)
+
+-- the same in the words of the plate's columns, where the table is theirs
+pub answers-columns : (N T : ℕ) (columns : List (List ℕ)) (table : List ℕ) → Table (ofColumns N T columns) table → (bound n : ℕ) (answer : Told ℕ) (old out : List ℤ)
+    → Answers (ofTable N T table) bound n answer old out → Answers (ofColumns N T columns) bound n answer old out
+answers-columns N T columns table t bound n answer old out (inl a) =
+    let c = table-chosen (ofColumns N T columns) table t bound n (a .0) .1 (a .1) in
+    inl (a .0, c, a .2 ∙ ap done (sym (same-error (ofColumns N T columns) (cellAt T table) (table-agrees (ofColumns N T columns) table t) bound (a .0) (c .admissible))), a .3)
+answers-columns N T columns table t bound n answer old out (inr a) =
+    inr (table-none (ofColumns N T columns) table t bound n .1 (a .0), a .1, a .2)
+
+-- what an answer of that kind tells: 12 is never given, and 11 exactly when no admissible sequence has that count
+pub never-12 : (p : paper.Plate) (bound n : ℕ) (answer : Told ℕ) (old out : List ℤ) → Answers p bound n answer old out → (layer : ℕ) → answer ≡ refused 12 layer → ⊥
+never-12 p bound n answer old out (inl a) layer e = let q = sym (a .2) ∙ e in let z : _≡_ {A = ℕ} 0 1 = cc in omega arith
+never-12 p bound n answer old out (inr a) layer e = let q = sym (a .1) ∙ e in let z : _≡_ {A = ℕ} 11 12 = cc in omega arith
+
+pub only-11 : (p : paper.Plate) (bound n : ℕ) (answer : Told ℕ) (old out : List ℤ) → Answers p bound n answer old out → answer ≡ refused 11 0 → None p bound n
+only-11 p bound n answer old out (inl a) e = absurd (let q = sym (a .2) ∙ e in let z : _≡_ {A = ℕ} 0 1 = cc in omega arith)
+only-11 p bound n answer old out (inr a) e = a .0

@@ -1,0 +1,4 @@
+pub mod Runs
+pub mod Plans
+pub mod Refusals
+pub mod Told

@@ -1,0 +1,3 @@
+pub mod Heights
+pub mod Layers
+pub mod Answers

@@ -1,0 +1,115 @@
+-- `recount_layers` meets its contract. The loop's invariant: none of the k layers so far is out, their errors sum to the sum, and the height
+-- reached is the datum height of zk. Heights rise, so k is below that height, and the sum of k 32-bit errors is small. Assumes nothing.
+use mathlib.Core.Path.{_≡_, refl, sym, ap, _∙_, subst}
+use mathlib.Core.Bool.{false}
+use Prim.Native.Nat.{ℕ, _+_, _-_, _*_, _≤_, _<_}
+use native.Mathlib.Omega.{arith}
+use borrow.Author.Count.{below-none, below-more}
+use borrow.Author.Needs.{needs}
+use lib.ListN.{length}
+use Rattle.paper.specs.Table.{ofTable}
+use Rattle.paper.specs.Sequence.{_!_, errorUnder}
+use Rattle.plate.specs.Datum.{datum}
+use Rattle.plate.specs.Refusal.{told, refused}
+use Rattle.recount.specs.declared.Layer.{Layer}
+use Rattle.recount.specs.declared.Layer.the-variants.{Out, Error}
+use Rattle.recount.specs.Layers.{Looked, outBetween}
+use Rattle.recount.specs.Recount.{layerOut}
+use Rattle.recount.proofs.Layers.{layer-between, one-more}
+use Rattle.recount.proofs.Answers.{starts-in, out-layer, ends-low, admissible}
+use Rattle.recount.proofs.recount_layers.Statement.{statement}
+use Rattle.recount.proofs.recount_layers.Tie as tie
+
+abbrev Inv-loop : tie.InvT-loop
+Inv-loop table s bound sequence n below₀ sum₀ k₀ below sum k =
+    (k ≤ n) × (k < below) × (32 < below + s .tmax) × (below < s .height + s .tmax + 32) × (sum ≤ k * 4_294_967_296)
+    × (below ≡ datum (sequence ! k))
+    × ((j : ℕ) → j < k → layerOut (s .height) (s .«set») table bound sequence j ≡ false)
+    × (sum ≡ errorUnder (ofTable (s .height) (s .«set») table) sequence k)
+
+abbrev μ-loop : tie.MeasureT-loop
+μ-loop table s bound sequence n below₀ sum₀ k₀ below sum k = n - k
+
+-- a layer that is looked at, between the heights zk and z(k + 1)
+module _ (c : tie.After-look Inv-loop μ-loop) where
+  abbrev l : tie.At-loop Inv-loop μ-loop
+  l = c .before .before .before
+
+  abbrev s : tie.Start Inv-loop μ-loop
+  s = l .before .before .before
+
+  -- what a look that came to `layer` tells
+  told-of : (layer : Layer) → c .look .result ≡ layer
+      → Looked layer (s .args .s .height) (s .args .s .«set») (s .args .table .now) (s .args .bound) (l .loop .below) (c .before .datum-at2 .result)
+  told-of layer e =
+      subst (λ (r : Layer). Looked r (s .args .s .height) (s .args .s .«set») (s .args .table .now) (s .args .bound) (l .loop .below) (c .before .datum-at2 .result)) e (c .look .ensures)
+
+  between : layerOut (s .args .s .height) (s .args .s .«set») (s .args .table .now) (s .args .bound) (s .args .sequence .now) (l .loop .k)
+      ≡ outBetween (s .args .s .height) (s .args .s .«set») (s .args .table .now) (s .args .bound) (l .loop .below) (c .before .datum-at2 .result)
+  between = layer-between (s .pre .0) _ _ _ _ _ _ (l .loop .inv .5) (c .before .datum-at2 .ensures) (omega arith)
+
+returns : tie.Need-returns Inv-loop μ-loop
+returns c =
+    let k = c .before .before .before in
+    let p = s k .pre in
+    ap told (c .refused .ensures)
+    ∙ out-layer _ _ _ _ _ (p .1 .1 .layered) (starts-in (p .0) _ (p .1 .1)) (l k .loop .k) (l k .loop .inv .6) (omega arith) (between k ∙ told-of k Out (c .before .enum-told .given .1))
+
+add-sum : tie.Need-add-sum Inv-loop μ-loop
+add-sum c = let k = c .before .before .before in omega (arith, told-of k (Error (c .before .layer .given .0 .0)) (c .before .layer .given .1), s k .pre .0 .high, s k .pre .0 .thick)
+
+loop-again : tie.Need-loop-again Inv-loop μ-loop
+loop-again c =
+    let k = c .before .before .before in
+    let t = told-of k (Error (c .before .layer .given .0 .0)) (c .before .layer .given .1) in
+    let g = s k .pre .0 .greatest in (
+      omega arith,
+      omega (arith, t .rises),
+      omega (arith, t .rises),
+      omega (arith, t .ends, g),
+      omega (arith, t .small),
+      k .before .datum-at2 .ensures,
+      below-more _ _ (l k .loop .inv .6) (between k ∙ t .admissible),
+      one-more (s k .pre .0) _ _ (s k .args .sequence .now) (l k .loop .k) _ _ (l k .loop .inv .5) (k .before .datum-at2 .ensures) (omega arith) _ _ t (l k .loop .inv .7),
+    )
+
+returns-2 : tie.Need-returns-2 Inv-loop μ-loop
+returns-2 c =
+    let d = c .before .before .before .before in
+    let p = d .before .before .before .pre in
+    let e : d .loop .k ≡ length (d .before .before .before .args .sequence .now) - 1 = omega arith in
+    ap told (c .refused2 .ensures)
+    ∙ ap (refused 13) (sym e)
+    ∙ ends-low _ _ _ _ _ (p .1 .1 .layered) (starts-in (p .0) _ (p .1 .1)) (d .loop .k) (d .loop .inv .6) e _ (d .loop .inv .5) (omega arith)
+
+returns-3 : tie.Need-returns-3 Inv-loop μ-loop
+returns-3 c =
+    let d = c .before .before .before in
+    let p = d .before .before .before .pre in
+    admissible _ _ _ _ _ (p .1 .1 .layered) (starts-in (p .0) _ (p .1 .1)) (d .loop .k) (d .loop .inv .6) (omega arith) _ (d .loop .inv .5) (omega arith) _ (d .loop .inv .7)
+
+pub recount-layers-spec : {M : Type 1} → statement M
+recount-layers-spec =
+    tie.close
+    (tie.spec
+    Inv-loop
+    μ-loop
+    (λ c. omega arith)
+    (λ c κs. omega arith)
+    (λ c. (omega arith, omega (arith, c .datum-at .ensures), omega (arith, c .datum-at .ensures), omega (arith, c .datum-at .ensures), omega arith, c .datum-at .ensures, below-none _, refl))
+    (λ c. omega arith)
+    (λ c κs. omega arith)
+    (λ c κs. search needs)
+    (λ c. search needs)
+    (λ c. search needs)
+    (λ c. omega arith)
+    (λ c κs. search needs)
+    returns
+    add-sum
+    (λ c. omega arith)
+    (λ c. omega arith)
+    loop-again
+    (λ c. omega arith)
+    (λ c κs. search needs)
+    returns-2
+    returns-3)

@@ -1,0 +1,2 @@
+pub mod Recount
+pub mod Layers
