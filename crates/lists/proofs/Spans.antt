@@ -7,7 +7,7 @@ use Prim.Native.Nat.{ℕ, zero, suc, _+_, _-_, _*_, _/_, _%_, _≤_, _<_}
 use native.Mathlib.Nat.{div-add-mod', mod-lt, div-lt-iff-lt-mul}
 use native.Mathlib.Omega.{arith}
 use native.Mathlib.Decide.{decLt, ℕ-discrete}
-use lib.Arith.{digits-div, digits-mod}
+use lib.Arith.{digits-lt, digits-div, digits-mod}
 use lib.ListN.{length, getD, set, length-set}
 use lib.Seq.{getD-set-same, getD-set-other}
 use Rattle.lists.specs.Rewrite.{rewritten, Span}
@@ -100,3 +100,36 @@ module _ {A : Type 0} {d : A} where
           let q : n + (k - n) ≡ k = omega arith in
           subst (λ (i : ℕ). getD new i d ≡ g k (getD old i d)) p
           (t .inside (k - n) (omega arith) ∙ ap (λ (i : ℕ). g i (getD mid (b + (k - n)) d)) q ∙ ap (g k) (s .above (b + (k - n)) (omega arith)))
+
+  -- what stands past the turns that were made is already what the rule makes of it: the rest of a span needs no turn
+  pub span-rest : {a n : ℕ} {g : ℕ → A → A} {old new : List A} (k : ℕ) → Span d a n g old new → n ≤ k
+      → ((m : ℕ) → n ≤ m → m < k → g m (getD new (a + m) d) ≡ getD new (a + m) d) → Span d a k g old new
+  span-rest {a} {n} {g} {old} {new} k s l e = record {
+    long = s .long;
+    inside = λ m h. go m h (decLt m n);
+    below = s .below;
+    above = λ i h. s .above i (omega arith);
+  }
+    where
+      go : (m : ℕ) → m < k → Dec (m < n) → getD new (a + m) d ≡ g m (getD old (a + m) d)
+      go m h (yes u) = s .inside m u
+      go m h (no u) = sym (e m (omega arith) h) ∙ ap (g m) (s .above (a + m) (omega arith))
+
+  -- a span rewritten, and then again
+  pub span-again : {a n : ℕ} {f g : ℕ → A → A} {old mid new : List A}
+      → Span d a n f old mid → Span d a n g mid new → Span d a n (λ m x. g m (f m x)) old new
+  span-again {a} {n} {f} {g} s t = record {
+    long = t .long ∙ s .long;
+    inside = λ m h. t .inside m h ∙ ap (g m) (s .inside m h);
+    below = λ i h. t .below i h ∙ s .below i h;
+    above = λ i h. t .above i h ∙ s .above i h;
+  }
+
+  -- a rule that does not look at what stood there has nothing more to do
+  pub span-self : {a n : ℕ} {f : ℕ → A} {old new : List A} → Span d a n (λ m x. f m) old new → Span d a n (λ m x. f m) new new
+  span-self s = record { long = refl; inside = s .inside; below = λ i h. refl; above = λ i h. refl }
+
+  -- a place of a row
+  pub span-at : {w : ℕ} (G : ℕ → ℕ → A → A) {old new : List A} (R r k : ℕ) → Span d 0 (R * w) (flat w G) old new → r < R → k < w
+      → getD new (r * w + k) d ≡ G r k (getD old (r * w + k) d)
+  span-at {w} G R r k s l u = front-inside s (r * w + k) (digits-lt l u) ∙ rw (digits-div r u, digits-mod r u)

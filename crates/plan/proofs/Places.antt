@@ -25,6 +25,10 @@ module _ (s : Settings) (sound : Sound s) where
       omega (arith, sound .rows-are, sound .greatest, sound .low, sound .thin, sound .order) in
       sound .entries-are ∙ rw (e, counts-is)
 
+  -- row q is the height q + 33 - tmax
+  pub row-in : (q m : ℕ) → q ≤ s .rows → m ≤ s .counts → q * (s .counts + 1) + m < s .entries
+  row-in q m l u = rw (sound .entries-are) (digits-lt (omega arith) (omega arith))
+
   pub place-in : (m h : ℕ) → m ≤ s .counts → 32 < h + s .tmax → h < s .height + 32 + s .tmax → (h + s .tmax - 33) * (s .counts + 1) + m < s .entries
   place-in m h l a b =
       rw (sound .entries-are) (digits-lt (omega (arith, sound .rows-are, sound .low, sound .thin, sound .order)) (omega arith))

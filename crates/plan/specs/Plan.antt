@@ -1,6 +1,7 @@
 -- Document 01, 'Plan': its refusals 1, 2, 3 (table, error sheet, thickness sheet, list), 7, 6, what it returns, and what the two sheets
 -- and the list hold then. Assumes nothing.
 use Prim.Native.Nat.{ℕ}
+use mathlib.Core.Path.{_≡_}
 use mathlib.Core.List.{List, [], _∷_, _++_}
 use lib.Dec.{ltb}
 use lib.ListN.{length}
@@ -46,3 +47,11 @@ planned N T bound table lent = record {
 -- WHAT THE BUFFERS HOLD THEN
 unfoldable pub planSheets : ℕ → ℕ → ℕ → List ℕ → ℕ → Sheets → Sheets
 planSheets N T c table bound lent = after (planAnswer N T c table lent) (planned N T bound table lent) lent
+
+abbrev pub sheetsOf : List ℕ → List ℕ → List ℕ → Sheets
+sheetsOf errors thicknesses leasts = record { errors = errors; thicknesses = thicknesses; leasts = leasts }
+
+-- what is told where these checks are left, and what the buffers, which held `lent`, hold then
+pub record Fills (checks : List (Check Numbered)) (N T bound : ℕ) (table : List ℕ) (answer : Told ℕ) (lent left : Sheets) : Type 0 where
+  pub tells : answer ≡ decided checks (M N T)
+  pub leaves : left ≡ after answer (planned N T bound table lent) lent

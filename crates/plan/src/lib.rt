@@ -1,22 +1,32 @@
-// Plans: reading a sequence back from two sheets.
+// Plans: filling the two sheets and the list, and reading a sequence back from two sheets.
 ghost use mathlib.Core.Path.{_≡_};
 ghost use mathlib.Core.List.{_++_};
 ghost use mathlib.Core.Option.{none};
-ghost use Prim.Native.Nat.{_+_, _<_, _≤_};
+ghost use Prim.Native.Nat.{ℕ, _+_, _-_, _*_, _<_, _≤_};
 ghost use lib.ListN.{length, drop};
 ghost use Rattle.lists.specs.Best.{value, place};
 ghost use Rattle.plate.specs.Refusal.{told};
-ghost use Rattle.plate.specs.Settings.{Sound};
-ghost use Rattle.sequence.specs.Sheets.{mark, entry, endOf, faultUnder, boundariesUnder};
+ghost use Rattle.lists.specs.Checks.{first};
+ghost use Rattle.plate.specs.Settings.{Sound, settingsChecks};
+ghost use Rattle.plan.specs.Plan.{planRest, planAnswer, planSheets, sheetsOf, Fills};
+ghost use Rattle.lists.specs.Rewrite.{Span};
+ghost use Rattle.paper.specs.Sheets.{missing};
+ghost use Rattle.sequence.specs.Least.{plus};
+ghost use Rattle.sequence.specs.Sheets.{mark, unmark, entry, endOf, faultUnder, boundariesUnder};
+ghost use Rattle.plan.specs.Planning.{Ready, planRules, tableCell, plannedErrors, plannedThicknesses, plannedList};
+ghost use Rattle.plan.specs.Rows.{rulesOf, RowTo, Under, Usable, Planned};
 ghost use Rattle.plan.specs.Reading.{entryChecks, roomChecks, readAnswer, readOut};
 ghost use Rattle.plan.specs.Walking.{faultOf, Within, Roomy, Answered};
 use plate::height::height_of;
 use plate::refusal::Answer;
+use plate::refusal::Checked;
 use plate::refusal::Reason;
 use plate::refusal::Refusal;
 use plate::settings::Made;
 use plate::settings::Settings;
 use plate::settings::is_allowed;
+use table::Tally;
+use table::check_table;
 
 // The entry that stands for none.
 const NONE: u64 = 18446744073709551615;
@@ -185,5 +195,267 @@ pub fn read_back(
     match made {
         Made::Bad(reason) => refused(reason, 0),
         Made::Good(s) => read_sheets(errors, thicknesses, s, count as usize, out),
+    }
+}
+
+// The cell of the layer from row `start` of thickness t.
+fn cell_at(table: &[u32], s: Settings, start: usize, t: usize) -> u32
+    requires { ⌜ Ready s (now table) ⌝ }
+    requires { ⌜ (start < s .rows) × (1 ≤ t) × (t ≤ s .tmax) ⌝ }
+    ensures { λ r. ⌜ r ≡ tableCell (s .«set») (now (table .entry)) (start + 33 - s .tmax) t ⌝ }
+{
+    table[start * s.tmax + (t - 1)]
+}
+
+// Whether a layer from row `start` of thickness t is permitted.
+fn may_use(table: &[u32], s: Settings, bound: u32, start: usize, t: usize) -> bool
+    requires { ⌜ Ready s (now table) ⌝ }
+    requires { ⌜ (start < s .rows) × (1 ≤ t) × (t ≤ s .tmax) ⌝ }
+    ensures { λ r. ⌜ r ≡ rulesOf s bound (now (table .entry)) .may (start + 33 - s .tmax) t ⌝ }
+{
+    if !is_allowed(s.set, t) {
+        return false;
+    }
+    cell_at(table, s, start, t) <= bound
+}
+
+// An entry with a layer's error more, and none where there is none.
+fn sum_or_none(e: u64, cell: u32) -> u64
+    requires { ⌜ ((e ≡ missing → ⊥) → e ≤ 9_184_000_000) ⌝ }
+    ensures { λ r. ⌜ r ≡ mark (plus cell (unmark e)) ⌝ }
+{
+    if e == NONE {
+        return NONE;
+    }
+    e + cell as u64
+}
+
+// Past the counts that layers of at least tmin can reach the row `start` by, or the greatest count.
+fn end_count(s: Settings, start: usize) -> usize
+    requires { ⌜ Sound s ⌝ }
+    requires { ⌜ start < s .rows ⌝ }
+    ensures { λ r. ⌜ (r ≤ s .counts) × ((m : ℕ) → r ≤ m → m < s .counts → start < m * s .tmin) ⌝ }
+{
+    let end = start / s.tmin + 1;
+    if s.counts < end {
+        return s.counts;
+    }
+    end
+}
+
+// Row q with no sequence at all.
+fn clear_row(s: Settings, q: usize, errors: &mut [u64], thicknesses: &mut [u8])
+    requires { ⌜ Sound s ⌝ }
+    requires { ⌜ (q ≤ s .rows) × (s .entries ≤ length (now errors)) × (s .entries ≤ length (now thicknesses)) ⌝ }
+    ensures { λ _. ⌜ Span 0 (q * (s .counts + 1)) (s .counts + 1) (λ m x. missing) (now (errors .entry)) (now (errors .exit)) ⌝ }
+    ensures { λ _. ⌜ Span 0 (q * (s .counts + 1)) (s .counts + 1) (λ m x. 0) (now (thicknesses .entry)) (now (thicknesses .exit)) ⌝ }
+{
+    let from = q * (s.counts + 1);
+    let mut m = 0;
+    while m <= s.counts {
+        let at = from + m;
+        errors[at] = NONE;
+        thicknesses[at] = 0;
+        m += 1;
+    }
+}
+
+// Row q by no layer: error 0 at count 0 of a start height, and none elsewhere.
+fn start_row(
+    table: &[u32],
+    s: Settings,
+    bound: u32,
+    q: usize,
+    errors: &mut [u64],
+    thicknesses: &mut [u8],
+)
+    requires { ⌜ Ready s (now table) ⌝ }
+    requires { ⌜ (q ≤ s .rows) × (s .entries ≤ length (now errors)) × (s .entries ≤ length (now thicknesses)) ⌝ }
+    ensures { λ _. ⌜ RowTo s (rulesOf s bound (now (table .entry))) q 0 (s .counts + 1) (now (errors .entry)) (now (thicknesses .entry)) (now (errors .exit)) (now (thicknesses .exit)) ⌝ }
+{
+    clear_row(s, q, errors, thicknesses);
+    let at = q * (s.counts + 1);
+    if q < s.tmax {
+        errors[at] = 0;
+    }
+}
+
+// One thickness more in row q, for every count that the row where the layer starts can have: a last layer of thickness t, permitted there.
+fn relax(
+    table: &[u32],
+    s: Settings,
+    bound: u32,
+    q: usize,
+    t: usize,
+    errors: &mut [u64],
+    thicknesses: &mut [u8],
+)
+    requires { ⌜ Ready s (now table) ⌝ }
+    requires { ⌜ Under s (rulesOf s bound (now table)) q (now errors) (now thicknesses) ⌝ }
+    requires { ⌜ Usable s (rulesOf s bound (now table)) q t ⌝ }
+    requires { ⌜ RowTo s (rulesOf s bound (now table)) q (t - 1) (s .counts + 1) (now errors) (now thicknesses) (now errors) (now thicknesses) ⌝ }
+    ensures { λ _. ⌜ RowTo s (rulesOf s bound (now (table .entry))) q t (s .counts + 1) (now (errors .entry)) (now (thicknesses .entry)) (now (errors .exit)) (now (thicknesses .exit)) ⌝ }
+{
+    let start = q - t;
+    let from = start * (s.counts + 1);
+    let to = q * (s.counts + 1) + 1;
+    let cell = cell_at(table, s, start, t);
+    let end = end_count(s, start);
+    let mut m = start / s.tmax;
+    while m < end {
+        let c = sum_or_none(errors[from + m], cell);
+        let at = to + m;
+        m += 1;
+        if c < errors[at] {
+            errors[at] = c;
+            thicknesses[at] = t as u8;
+        }
+    }
+}
+
+// One thickness more in row q, where it may be used.
+fn step_row(
+    table: &[u32],
+    s: Settings,
+    bound: u32,
+    q: usize,
+    t: usize,
+    errors: &mut [u64],
+    thicknesses: &mut [u8],
+)
+    requires { ⌜ Ready s (now table) ⌝ }
+    requires { ⌜ Under s (rulesOf s bound (now table)) q (now errors) (now thicknesses) ⌝ }
+    requires { ⌜ (1 ≤ t) × (t ≤ s .tmax) ⌝ }
+    requires { ⌜ RowTo s (rulesOf s bound (now table)) q (t - 1) (s .counts + 1) (now errors) (now thicknesses) (now errors) (now thicknesses) ⌝ }
+    ensures { λ _. ⌜ RowTo s (rulesOf s bound (now (table .entry))) q t (s .counts + 1) (now (errors .entry)) (now (thicknesses .entry)) (now (errors .exit)) (now (thicknesses .exit)) ⌝ }
+{
+    if t <= q {
+        if may_use(table, s, bound, q - t, t) {
+            relax(table, s, bound, q, t, errors, thicknesses);
+        }
+    }
+}
+
+// Fills row q of both sheets, whose rows under it are filled: thickness by thickness.
+fn fill_row(
+    table: &[u32],
+    s: Settings,
+    bound: u32,
+    q: usize,
+    errors: &mut [u64],
+    thicknesses: &mut [u8],
+)
+    requires { ⌜ Ready s (now table) ⌝ }
+    requires { ⌜ Under s (rulesOf s bound (now table)) q (now errors) (now thicknesses) ⌝ }
+    ensures { λ _. ⌜ RowTo s (rulesOf s bound (now (table .entry))) q (s .tmax) (s .counts + 1) (now (errors .entry)) (now (thicknesses .entry)) (now (errors .exit)) (now (thicknesses .exit)) ⌝ }
+{
+    start_row(table, s, bound, q, errors, thicknesses);
+    let mut t = 0;
+    while t < s.tmax {
+        t += 1;
+        step_row(table, s, bound, q, t, errors, thicknesses);
+    }
+}
+
+// Fills both sheets, row by row.
+fn fill_sheets(table: &[u32], s: Settings, bound: u32, errors: &mut [u64], thicknesses: &mut [u8])
+    requires { ⌜ Ready s (now table) ⌝ }
+    requires { ⌜ (s .entries ≤ length (now errors)) × (s .entries ≤ length (now thicknesses)) ⌝ }
+    ensures { λ _. ⌜ now (errors .exit) ≡ plannedErrors (s .height) (s .«set») (planRules (s .height) (s .«set») bound (now (table .entry))) (now (errors .entry)) ⌝ }
+    ensures { λ _. ⌜ now (thicknesses .exit) ≡ plannedThicknesses (s .height) (s .«set») (planRules (s .height) (s .«set») bound (now (table .entry))) (now (thicknesses .entry)) ⌝ }
+{
+    let mut q = 0;
+    while q <= s.rows {
+        fill_row(table, s, bound, q, errors, thicknesses);
+        q += 1;
+    }
+}
+
+// The list of least errors, for the counts from 1, from the error sheet that a plan of this table and bound filled.
+fn fill_list(table: &[u32], s: Settings, bound: u32, errors: &[u64], list: &mut [u64])
+    requires { ⌜ Ready s (now table) ⌝ }
+    requires { ⌜ Planned s (rulesOf s bound (now table)) (now errors) ⌝ }
+    requires { ⌜ s .counts ≤ length (now list) ⌝ }
+    ensures { λ _. ⌜ now (list .exit) ≡ plannedList (s .height) (s .«set») (rulesOf s bound (now (table .entry))) (now (list .entry)) ⌝ }
+{
+    let mut i = 0;
+    while i < s.counts {
+        list[i] = end_of(errors, s, i + 1).error;
+        i += 1;
+    }
+}
+
+// Both sheets and the list.
+fn plan_sheets(
+    table: &[u32],
+    s: Settings,
+    bound: u32,
+    errors: &mut [u64],
+    thicknesses: &mut [u8],
+    list: &mut [u64],
+)
+    requires { ⌜ Ready s (now table) ⌝ }
+    requires { ⌜ (s .entries ≤ length (now errors)) × (s .entries ≤ length (now thicknesses)) × (s .counts ≤ length (now list)) ⌝ }
+    ensures { λ _. ⌜ now (errors .exit) ≡ plannedErrors (s .height) (s .«set») (planRules (s .height) (s .«set») bound (now (table .entry))) (now (errors .entry)) ⌝ }
+    ensures { λ _. ⌜ now (thicknesses .exit) ≡ plannedThicknesses (s .height) (s .«set») (planRules (s .height) (s .«set») bound (now (table .entry))) (now (thicknesses .entry)) ⌝ }
+    ensures { λ _. ⌜ now (list .exit) ≡ plannedList (s .height) (s .«set») (planRules (s .height) (s .«set») bound (now (table .entry))) (now (list .entry)) ⌝ }
+{
+    fill_sheets(table, s, bound, errors, thicknesses);
+    fill_list(table, s, bound, errors, list);
+}
+
+// Where the settings are in order: 3, 7, 6, and then the sheets and the list.
+fn plan_with(
+    table: &[u32],
+    s: Settings,
+    tally: Tally,
+    bound: u32,
+    errors: &mut [u64],
+    thicknesses: &mut [u8],
+    list: &mut [u64],
+) -> Answer
+    requires { ⌜ Sound s ⌝ }
+    requires { ⌜ first (settingsChecks (s .height) (s .«set»)) ≡ none ⌝ }
+    ensures { λ r. ⌜ Fills (planRest (s .height) (s .«set») (tally .columns) (now (table .entry)) (sheetsOf (now (errors .entry)) (now (thicknesses .entry)) (now (list .entry)))) (s .height) (s .«set») bound (now (table .entry)) (told r)
+        (sheetsOf (now (errors .entry)) (now (thicknesses .entry)) (now (list .entry))) (sheetsOf (now (errors .exit)) (now (thicknesses .exit)) (now (list .exit))) ⌝ }
+{
+    if table.len() < s.cells {
+        return refused(Reason::ShortBuffer, 1);
+    }
+    if errors.len() < s.entries {
+        return refused(Reason::ShortBuffer, 2);
+    }
+    if thicknesses.len() < s.entries {
+        return refused(Reason::ShortBuffer, 3);
+    }
+    if list.len() < s.counts {
+        return refused(Reason::ShortBuffer, 4);
+    }
+    let checked = check_table(table, s.height as u32, s.set, tally);
+    if let Checked::Refused(refusal) = checked {
+        return Answer::Refused(refusal);
+    }
+    plan_sheets(table, s, bound, errors, thicknesses, list);
+    Answer::Done(s.counts as u64)
+}
+
+// Document 01, 'Plan': 1, 2, 3 (table, error sheet, thickness sheet, list), 7, 6.
+pub fn plan(
+    table: &[u32],
+    height: u32,
+    set: u32,
+    tally: Tally,
+    bound: u32,
+    errors: &mut [u64],
+    thicknesses: &mut [u8],
+    list: &mut [u64],
+) -> Answer
+    ensures { λ r. ⌜ (told r ≡ planAnswer height «set» (tally .columns) (now (table .entry)) (sheetsOf (now (errors .entry)) (now (thicknesses .entry)) (now (list .entry))))
+        × (sheetsOf (now (errors .exit)) (now (thicknesses .exit)) (now (list .exit)) ≡ planSheets height «set» (tally .columns) (now (table .entry)) bound (sheetsOf (now (errors .entry)) (now (thicknesses .entry)) (now (list .entry)))) ⌝ }
+{
+    let made = Settings::new(height, set);
+    match made {
+        Made::Bad(reason) => refused(reason, 0),
+        Made::Good(s) => plan_with(table, s, tally, bound, errors, thicknesses, list),
     }
 }

@@ -1,0 +1,51 @@
+-- `fill_sheets` meets its contract. The loop's invariant: the first q rows of both sheets are filled. Assumes nothing.
+use Prim.Native.Nat.{_+_, _-_, _≤_}
+use native.Mathlib.Omega.{arith}
+use Rattle.plan.specs.Rows.{rulesOf, SheetTo}
+use Rattle.plan.proofs.Rows.{sheet-none, sheet-under, sheet-more, sheet-whole}
+use Rattle.plan.proofs.fill_sheets.Statement.{statement}
+use Rattle.plan.proofs.fill_sheets.Tie as tie
+
+abbrev Inv-loop : tie.InvT-loop
+Inv-loop table s bound errors₀ thicknesses₀ q₀ errors thicknesses q =
+    (q ≤ s .rows + 1) × SheetTo s (rulesOf s bound table) q errors₀ thicknesses₀ errors thicknesses
+
+abbrev μ-loop : tie.MeasureT-loop
+μ-loop table s bound errors₀ thicknesses₀ q₀ errors thicknesses q = s .rows + 1 - q
+
+abbrev start : tie.At-loop Inv-loop μ-loop → tie.Start Inv-loop μ-loop
+start l = l .before .before .before .before
+
+fill-row-requires : tie.Need-fill-row-requires Inv-loop μ-loop
+fill-row-requires c κs =
+    let l = c .before .before .before .before in
+    let s = start l in
+    (s .pre .0, sheet-under (s .args .s) _ _ (s .pre .0) (l .loop .inv .1) (omega arith) (s .pre .1 .0) (s .pre .1 .1))
+
+loop-again : tie.Need-loop-again Inv-loop μ-loop
+loop-again c =
+    let r = c .before .before .before .before in
+    let l = r .before .before .before .before .before in
+    let s = start l in
+    (omega arith, sheet-more (s .args .s) _ _ (s .pre .0) (l .loop .inv .1) (r .fill-row .ensures))
+
+returns : tie.Need-returns Inv-loop μ-loop
+returns c =
+    let l = c .before .before in
+    let s = start l in
+    sheet-whole (s .args .s) _ _ (s .pre .0) (l .loop .q) (l .loop .inv .1) (omega arith)
+
+pub fill-sheets-spec : {M : Type 1} → statement M
+fill-sheets-spec =
+    tie.close
+    (tie.spec
+    Inv-loop
+    μ-loop
+    (λ c. let s = c .before .before .before in (omega arith, sheet-none (s .args .s) _ _ (s .pre .0) _ _))
+    fill-row-requires
+    (λ c. let s = start (c .before .before .before .before .before .before .before .before .before) in omega (arith, s .pre .0 .sound .rows-are, s .pre .0 .sound .high, s .pre .0 .sound .thick))
+    (λ c. omega arith)
+    loop-again
+    (λ c. c .before .before .loop .inv .1 .errors-are .long)
+    (λ c. c .before .before .loop .inv .1 .thicknesses-are .long)
+    returns)
