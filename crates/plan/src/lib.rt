@@ -21,7 +21,7 @@ use plate::height::height_of;
 use plate::refusal::Answer;
 use plate::refusal::Checked;
 use plate::refusal::Reason;
-use plate::refusal::Refusal;
+use plate::refusal::refused;
 use plate::settings::Made;
 use plate::settings::Settings;
 use plate::settings::is_allowed;
@@ -41,15 +41,6 @@ pub struct End {
 pub enum Walk {
     Fine,
     Fault(usize),
-}
-
-fn refused(reason: Reason, place: usize) -> Answer
-    ensures { λ r. ⌜ r ≡ Answer.Refused (record { reason = reason; place = place }) ⌝ }
-{
-    Answer::Refused(Refusal {
-        reason,
-        place: place as u64,
-    })
 }
 
 // The least entry of count n at the heights from N to N + tmax - 1.

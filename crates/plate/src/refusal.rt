@@ -65,3 +65,13 @@ pub enum Checked {
     Passed,
     Refused(Refusal),
 }
+
+// The answer of a call that is refused at a place.
+pub fn refused(reason: Reason, place: usize) -> Answer
+    ensures { λ r. ⌜ r ≡ Answer.Refused (record { reason = reason; place = place }) ⌝ }
+{
+    Answer::Refused(Refusal {
+        reason,
+        place: place as u64,
+    })
+}

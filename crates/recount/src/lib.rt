@@ -12,7 +12,7 @@ use plate::height::datum_of;
 use plate::refusal::Answer;
 use plate::refusal::Checked;
 use plate::refusal::Reason;
-use plate::refusal::Refusal;
+use plate::refusal::refused;
 use plate::settings::Made;
 use plate::settings::Settings;
 use plate::settings::is_allowed;
@@ -23,15 +23,6 @@ use table::check_table;
 pub enum Layer {
     Out,
     Error(u64),
-}
-
-fn refused(reason: Reason, place: usize) -> Answer
-    ensures { λ r. ⌜ r ≡ Answer.Refused (record { reason = reason; place = place }) ⌝ }
-{
-    Answer::Refused(Refusal {
-        reason,
-        place: place as u64,
-    })
 }
 
 // The datum height of boundary k.

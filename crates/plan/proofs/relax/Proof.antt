@@ -19,9 +19,9 @@ Inv-loop table bound q t errors₀ thicknesses₀ start from to cell end m₀ er
 abbrev μ-loop : tie.MeasureT-loop
 μ-loop table bound q t errors₀ thicknesses₀ start from to cell end m₀ errors thicknesses m = end - m
 
--- where the row's first entry stands, and the row's where the layer starts
-row-start : (s : tie.Start Inv-loop μ-loop) → s .args .q * (s .args .s .counts + 1) + s .args .s .counts < s .args .s .entries
-row-start s = row-in (s .args .s) (s .pre .0 .sound) (s .args .q) (s .args .s .counts) (s .pre .1 .0 .row) (omega arith)
+-- where the row's last entry stands, and the first one of the row where the layer starts
+row-end : (s : tie.Start Inv-loop μ-loop) → s .args .q * (s .args .s .counts + 1) + s .args .s .counts < s .args .s .entries
+row-end s = row-in (s .args .s) (s .pre .0 .sound) (s .args .q) (s .args .s .counts) (s .pre .1 .0 .row) (omega arith)
 
 from-start : (s : tie.Start Inv-loop μ-loop) → (s .args .q - s .args .t) * (s .args .s .counts + 1) + 0 < s .args .s .entries
 from-start s = row-in (s .args .s) (s .pre .0 .sound) (s .args .q - s .args .t) 0 (omega (arith, s .pre .1 .0 .row)) (omega arith)
@@ -95,8 +95,8 @@ relax-spec =
     (λ c. let s = c .before .before .before .before in omega (arith, s .pre .0 .sound .few-counts))
     (λ c. let s = c .before .before .before .before in omega (arith, from-start s, s .pre .0 .sound .few-entries))
     (λ c. let s = c .before .before .before .before .before in omega (arith, s .pre .0 .sound .few-counts))
-    (λ c. let s = c .before .before .before .before .before in omega (arith, row-start s, s .pre .0 .sound .few-entries))
-    (λ c. let s = c .before .before .before .before .before in omega (arith, row-start s, s .pre .0 .sound .few-entries))
+    (λ c. let s = c .before .before .before .before .before in omega (arith, row-end s, s .pre .0 .sound .few-entries))
+    (λ c. let s = c .before .before .before .before .before in omega (arith, row-end s, s .pre .0 .sound .few-entries))
     (λ c κs. let s = c .before .before .before .before .before in (s .pre .0, (omega (arith, s .pre .1 .0 .row, s .pre .1 .1 .0 .thick, s .pre .1 .1 .0 .above), s .pre .1 .1 .0 .thick, s .pre .1 .1 .0 .thin)))
     (λ c κs. let s = c .before .before .before .before .before .before in (s .pre .0 .sound, omega (arith, s .pre .1 .0 .row, s .pre .1 .1 .0 .thick, s .pre .1 .1 .0 .above)))
     (λ c. let s = c .before .before .before .before .before .before .before .before in omega (arith, s .pre .0 .sound .thin, s .pre .0 .sound .order))
