@@ -30,11 +30,11 @@ use Rattle.meaning.specs.Working.{rulesOf, heightsOf, boundariesOf, foun
 use Rattle.meaning.proofs.Sequence.{layersUnder, length-under, ends-up, ends-down, Down, before-up, before-down}
 use Rattle.meaning.proofs.Sheets.{place-top, length-up, layers-up, error-up, ending-up, at-datum, built-at}
 
-length-count : (n : ℕ) (zs : List ℤ) → 1 ≤ n → count zs ≡ n → length zs ≡ suc n
+pub length-count : (n : ℕ) (zs : List ℤ) → 1 ≤ n → count zs ≡ n → length zs ≡ suc n
 length-count n [] l e = absurd (omega arith)
 length-count n (z ∷ zs) l e = ap suc e
 
-count-length : (n : ℕ) (zs : List ℤ) → length zs ≡ suc n → count zs ≡ n
+pub count-length : (n : ℕ) (zs : List ℤ) → length zs ≡ suc n → count zs ≡ n
 count-length n [] e = absurd (omega arith)
 count-length n (z ∷ zs) e = omega arith
 

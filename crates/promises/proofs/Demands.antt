@@ -7,7 +7,7 @@ use Prim.Native.Nat.{ℕ, _+_, _-_, _≤_, _<_}
 use native.Mathlib.Omega.{arith}
 use borrow.Author.Tests.{le-ltb}
 use lib.IntN.{ℤ}
-use lib.ListN.{length, getD}
+use lib.ListN.{length, take}
 use Rattle.lists.specs.Checks.{first}
 use Rattle.paper.specs.Layer as paper
 use Rattle.paper.specs.Layer.{ofColumns}
@@ -19,11 +19,18 @@ use Rattle.plate.proofs.Decided.{settings-good, after-done}
 use Rattle.table.specs.Calls.{short, outCell}
 use Rattle.plan.specs.Plan.{Sheets, boundChecks, planRest, planAnswer, planned, planSheets}
 use Rattle.plan.specs.Reading.{readAnswer, readOut}
+use Rattle.recount.specs.Recount.{recountAnswer}
+use Rattle.meaning.proofs.Choice.{length-count}
 use Rattle.meaning.proofs.Table.{table-agrees, table-chosen, table-none}
 use Rattle.meaning.proofs.Usable.{same-error}
 use Rattle.promises.specs.Plans.{Answers}
 use Rattle.promises.proofs.Fine.{settings-fine, out-fine}
 use Rattle.promises.proofs.Plans.{plan-reads}
+use Rattle.promises.proofs.Recounts.{recounts}
+
+take-front : (xs ys : List ℤ) → take (length xs) (xs ++ ys) ≡ xs
+take-front [] ys = refl
+take-front (x ∷ xs) ys = ap (λ (l : List ℤ). x ∷ l) (take-front xs ys)
 
 -- a table in bounds and buffers with room: the plan is done, and M is its answer
 pub record Room (N T : ℕ) (lent : Sheets) : Type 0 where
@@ -54,6 +61,16 @@ module _ (N T : ℕ) (settings : paper.Settings N T) where
       subst (λ (s : Sheets). Answers (ofTable N T table) bound n (readAnswer N T (s .errors) (s .thicknesses) n (length out)) out (readOut N T (s .errors) (s .thicknesses) n out))
       (sym (plan-leaves c table bound lent b r))
       (plan-reads N T bound settings small table lent (r .errors) (r .thicknesses) (r .leasts) n low high out room)
+
+  -- recounting what was read back gives that error
+  pub read-recounted : (c : ℕ) (table : List ℕ) (bound n e : ℕ) (old out : List ℤ) → InBounds N T c table → 1 ≤ n → Answers (ofTable N T table) bound n (done e) old out
+      → recountAnswer N T c table bound (take (n + 1) out) ≡ done e
+  read-recounted c table bound n e old out b low (inr a) = absurd (let q = a .1 in let z : _≡_ {A = ℕ} 0 1 = cc in omega arith)
+  read-recounted c table bound n e old out b low (inl a) =
+      let s = length-count n (a .0) low (a .1 .counts) in
+      let l : length (a .0) ≡ n + 1 = omega arith in
+      let t : take (n + 1) out ≡ a .0 = ap₂ take (sym l) (a .3) ∙ take-front (a .0) _ in
+      ap (recountAnswer N T c table bound) t ∙ recounts N T bound table settings (a .0) (a .1 .admissible) c b ∙ sym (a .2)
 
 -- the same in the words of the plate's columns, where the table is theirs
 pub answers-columns : (N T : ℕ) (columns : List (List ℕ)) (table : List ℕ) → Table (ofColumns N T columns) table → (bound n : ℕ) (answer : Told ℕ) (old out : List ℤ)
