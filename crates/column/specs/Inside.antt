@@ -1,6 +1,6 @@
 -- One column in one layer, over heights counted from the datum: h stands for z = h - 32. Assumes nothing.
 use Prim.Native.Nat.{ℕ, zero, suc, _+_, _-_, _%_, min}
-use mathlib.Core.Bool.{Bool, cond}
+use mathlib.Core.Bool.{cond}
 use mathlib.Core.List.{List, [], _∷_}
 use lib.Dec.{leb, ltb}
 use Rattle.column.specs.declared.Judged.{Judged}

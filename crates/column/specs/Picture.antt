@@ -6,7 +6,7 @@ use lib.IntN.{ℤ, pos, negℤ}
 use lib.Signed.{ltZ}
 use Rattle.lists.specs.Checks.{Check}
 use Rattle.paper.specs.Layer.{allowed, tmax, share, filled}
-use Rattle.plate.specs.Refusal.{numberOf, Told, done, refusal, Numbered, check, decided}
+use Rattle.plate.specs.Refusal.{Told, done, refusal, Numbered, check, decided}
 use Rattle.plate.specs.Settings.{settingsChecks}
 use Rattle.column.specs.Order.{columnChecks}
 use Rattle.column.specs.declared.Judged.{Judged}

@@ -1,7 +1,7 @@
 -- What `bestOf` gives: an element at a place of its range, and none before it.
 -- Assumes nothing.
 use Prim.Native.Nat.{ℕ, zero, suc, _+_, _≤_, _<_}
-use mathlib.Core.Path.{_≡_, refl, sym, _∙_, ap, ap₂, subst}
+use mathlib.Core.Path.{_≡_, refl, ap₂, subst}
 use mathlib.Core.Logic.{_⊎_, inl, inr, ⊎-elim}
 use mathlib.Core.Bool.{Bool, true, false, cond}
 use mathlib.Core.Option.{Option, none, some}
@@ -9,7 +9,7 @@ use native.Mathlib.Omega.{arith}
 use native.Mathlib.Decide.{decLt}
 use lib.Dec.{ltb}
 use borrow.Author.Tests.{ltb-true, ltb-false}
-use Rattle.lists.specs.Best.{Best, nothing, found, value, place, better, bestOf}
+use Rattle.lists.specs.Best.{Best, nothing, found, better, bestOf}
 
 -- b is found, at most e, and where it is e its place is at most t
 abbrev pub Beats : Best → ℕ → ℕ → Type 0

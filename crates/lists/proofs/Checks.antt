@@ -1,10 +1,10 @@
 -- The one law on refusals: the first check that holds is the one that is answered, and it is answered exactly when it holds and
 -- nothing earlier in the list does. By induction on the list: a check that does not hold is passed over. Assumes nothing.
-use mathlib.Core.Path.{_≡_, refl, sym, ap, _∙_, subst}
+use mathlib.Core.Path.{_≡_, refl, ap, _∙_}
 use mathlib.Core.Logic.{_↔_}
 use mathlib.Core.Bool.{Bool, true, false, cond}
 use mathlib.Core.List.{List, [], _∷_, _++_}
-use mathlib.Core.Option.{Option, none, some}
+use mathlib.Core.Option.{none, some}
 use Prim.Native.Nat.{ℕ}
 use native.Mathlib.Omega.{arith}
 use Rattle.lists.specs.Checks.{Check, first, Quiet, Given}

@@ -1,8 +1,8 @@
 -- Rewriting the front of a buffer, for elements of any type: what the list then holds at each place, two rewritings one after
 -- the other, and that a list which holds the right elements is the rewritten one. Assumes nothing.
-use mathlib.Core.Path.{_≡_, refl, sym, ap, _∙_, subst}
+use mathlib.Core.Path.{_≡_, refl, sym, ap, _∙_}
 use mathlib.Core.List.{List, [], _∷_}
-use Prim.Native.Nat.{ℕ, zero, suc, _+_, _≤_, _<_}
+use Prim.Native.Nat.{ℕ, zero, suc, _≤_, _<_}
 use native.Mathlib.Nat.{not-suc-le-zero, le-of-suc-le-suc}
 use native.Mathlib.Omega.{arith}
 use native.Mathlib.Decide.{decLt}
@@ -45,12 +45,6 @@ module _ {A : Type 0} where
 
       at : (i : ℕ) → i < length new → getD new i d ≡ getD (rewritten g n old) i d
       at i l = go i l (decLt i n)
-
-  pub rewritten-same : (d : A) (f g : ℕ → A → A) (n : ℕ) (l : List A)
-      → ((i : ℕ) → i < n → i < length l → f i (getD l i d) ≡ g i (getD l i d)) → rewritten f n l ≡ rewritten g n l
-  rewritten-same d f g n l e =
-      rewritten-is d g n l (rewritten f n l) (length-rewritten f n l) (λ i h k. rewritten-at f n l i d h k ∙ e i h k)
-      (λ i h. rewritten-past f n l i d h)
 
   pub rewritten-twice : (f g : ℕ → A → A) (n : ℕ) (l : List A) → rewritten g n (rewritten f n l) ≡ rewritten (λ i x. g i (f i x)) n l
   unfolding rewritten

@@ -1,6 +1,6 @@
 -- The lowest index that passes a test: every 'first such index' of document 01. Assumes nothing.
 use Prim.Native.Nat.{ℕ, zero, suc}
-use mathlib.Core.Bool.{Bool, true, false, cond}
+use mathlib.Core.Bool.{Bool, cond}
 
 -- the lowest k below n with p k, and n where there is none
 unfoldable pub lowest : (ℕ → Bool) → ℕ → ℕ

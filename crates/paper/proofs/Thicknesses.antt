@@ -1,11 +1,11 @@
 -- A thickness set: its members are 1 to 32, tmin and tmax are its least and greatest, and of 32 bits only 0 has none.
 -- The searches for tmin and tmax are followed step by step (`-hit`, `-miss`), which is also how the loops that find them go.
 -- Assumes nothing.
-use mathlib.Core.Path.{_≡_, refl, sym, ap, _∙_, subst}
+use mathlib.Core.Path.{_≡_, refl, sym, ap, _∙_}
 use mathlib.Core.Bool.{Bool, true, false, cond, _&&_}
-use mathlib.Core.Logic.{⊎-elim, _↔_}
+use mathlib.Core.Logic.{_↔_}
 use Prim.Native.Nat.{ℕ, zero, suc, _+_, _-_, _*_, _/_, _%_, _^_, _≤_, _<_}
-use native.Mathlib.Nat.{eq-or-lt-of-le, div-one, mul-one, div-eq-of-lt, div-div-eq-div-mul, pow-suc, zero-mul, mul-assoc, mul-comm}
+use native.Mathlib.Nat.{div-one, mul-one, div-eq-of-lt, div-div-eq-div-mul, pow-suc, zero-mul, mul-assoc, mul-comm}
 use native.Mathlib.Numerals.{sub-one}
 use native.Mathlib.Omega.{arith}
 use native.Mathlib.Decide.{ℕ-discrete}

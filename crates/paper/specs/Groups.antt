@@ -1,6 +1,6 @@
 -- Demand 3 on least errors, for any plates whose layers' errors add up: 'the groups' own least errors add up to no more than the
 -- plate's, and to exactly as much if and only if one sequence admissible for the plate is least for every group'. Assumes nothing.
-use Prim.Native.Nat.{ℕ, zero, suc, _+_, _≤_}
+use Prim.Native.Nat.{ℕ, _+_, _≤_}
 use mathlib.Core.Path.{_≡_}
 use mathlib.Core.Logic.{_↔_}
 use mathlib.Core.Bool.{true}

@@ -1,27 +1,24 @@
 -- The ways out of `plan`: for each test that fails the refusal that document 01 gives, and the answer where none does; and that a table
 -- which passes 7 and 6 has small cells. Assumes nothing.
-use mathlib.Core.Path.{_≡_, refl, sym, ap, _∙_, subst}
-use mathlib.Core.Bool.{Bool, true, false}
-use mathlib.Core.List.{List, [], _∷_, _++_}
-use mathlib.Core.Option.{Option, none, some}
-use Prim.Native.Nat.{ℕ, _+_, _≤_, _<_}
+use mathlib.Core.Path.{_≡_, sym, ap, _∙_}
+use mathlib.Core.List.{List}
+use mathlib.Core.Option.{Option, none}
+use Prim.Native.Nat.{ℕ, _≤_, _<_}
 use native.Mathlib.Omega.{arith}
 use borrow.Author.Tests.{lt-ltb, le-ltb, ltb-false}
-use lib.Dec.{ltb}
-use lib.ListN.{length, getD}
+use lib.ListN.{length}
 use Rattle.lists.specs.Checks.{Check, first}
 use Rattle.lists.proofs.Checks.{first-none, first-passed}
-use Rattle.paper.specs.Layer.{tmax}
 use Rattle.paper.specs.Table.{cells, mostColumns}
 use Rattle.paper.specs.Sequence.{M}
 use Rattle.paper.specs.Sheets.{entries}
-use Rattle.plate.specs.Refusal.{numberOf, Told, done, refused, refusal, Numbered, toldBy, decided, after, told}
+use Rattle.plate.specs.Refusal.{refused, refusal, Numbered, toldBy, decided, after, told}
 use Rattle.plate.specs.Checked.{saidBy}
 use Rattle.plate.specs.Settings.{settingsChecks, Sound}
 use Rattle.plate.specs.declared.refusal.Refusal.{Refusal}
 use Rattle.plate.specs.declared.refusal.Checked.{Checked}
 use Rattle.plate.specs.declared.refusal.Answer.{Answer}
-use Rattle.plate.specs.declared.refusal.Answer.the-variants.{Done, Refused}
+use Rattle.plate.specs.declared.refusal.Answer.the-variants.{Refused}
 use Rattle.plate.specs.declared.settings.Settings.{Settings}
 use Rattle.table.specs.Cells.{firstOut}
 use Rattle.table.specs.Calls.{short, outCell, tableRest, tableChecks}

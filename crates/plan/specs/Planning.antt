@@ -1,11 +1,10 @@
 -- What a plan fills over a table: the rules that the table's cells give, the two sheets, and the list. Assumes nothing.
 use Prim.Native.Nat.{ℕ, zero, suc, _+_, _-_, _*_, _≤_, _<_}
-use mathlib.Core.Path.{_≡_}
-use mathlib.Core.Bool.{Bool, cond, _&&_}
+use mathlib.Core.Bool.{cond, _&&_}
 use mathlib.Core.List.{List}
 use lib.Dec.{leb, ltb}
 use lib.ListN.{length, getD}
-use Rattle.lists.specs.Best.{Best, nothing, found, value, bestOf}
+use Rattle.lists.specs.Best.{Best, nothing, found, bestOf}
 use Rattle.lists.specs.Rewrite.{rewritten}
 use Rattle.paper.specs.Layer.{tmax}
 use Rattle.paper.specs.Sequence.{M}

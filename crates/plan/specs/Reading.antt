@@ -39,7 +39,7 @@ entryChecks N T errors thicknesses n =
     ∷ check 12 (isFault (walkFault N T errors thicknesses n)) (layerOf (walkFault N T errors thicknesses n))
     ∷ []
 
--- the output has room for n + 1 numbers
+-- 3 for the sheets; 10; 3 for the output, which takes n + 1 numbers
 unfoldable pub roomChecks : ℕ → ℕ → List ℕ → List ℕ → ℕ → ℕ → List (Check Numbered)
 roomChecks N T errors thicknesses n room =
     check 3 (ltb (length errors) (entries N T)) 1

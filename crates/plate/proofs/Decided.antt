@@ -1,8 +1,8 @@
 -- A call's answer by its checks: it goes on where the first of them pass, stops where they do not, is refused exactly when document 01
 -- says so, and its numbers say which reason it was. Assumes nothing.
-use mathlib.Core.Path.{_≡_, refl, sym, ap, _∙_}
+use mathlib.Core.Path.{_≡_, refl, sym, ap}
 use mathlib.Core.Logic.{_↔_}
-use mathlib.Core.List.{List, [], _∷_, _++_}
+use mathlib.Core.List.{List, _++_}
 use mathlib.Core.Option.{Option, none, some}
 use Prim.Native.Nat.{ℕ}
 use native.Mathlib.Omega.{arith}
@@ -11,7 +11,7 @@ use Rattle.lists.proofs.Checks.{first-passed, first-stopped, first-exactly, fir
 use Rattle.plate.specs.declared.refusal.Reason.{Reason}
 use Rattle.plate.specs.declared.settings.Made.the-variants.{Bad}
 use Rattle.plate.specs.Settings.{settingsChecks, settingsOf, toldMade}
-use Rattle.plate.specs.Refusal.{numberOf, Told, done, refused, Numbered, check, toldBy, decided, after}
+use Rattle.plate.specs.Refusal.{numberOf, Told, done, refused, Numbered, toldBy, decided, after}
 
 told-refused : {X : Type 0} (o : Option Numbered) (x : X) (number place : ℕ) → toldBy o x ≡ refused number place
     → o ≡ some (record { number = number; place = place })
@@ -21,7 +21,7 @@ told-refused (some r) x n p e =
     let b : r .place ≡ p = cc in
     λ i. some (record { number = a i; place = b i })
 
-refused-first : {X : Type 0} (cs : List (Check Numbered)) (x : X) (number place : ℕ) → decided cs x ≡ refused number place
+pub refused-first : {X : Type 0} (cs : List (Check Numbered)) (x : X) (number place : ℕ) → decided cs x ≡ refused number place
     → first cs ≡ some (record { number = number; place = place })
 refused-first cs x n p e = told-refused (first cs) x n p e
 

@@ -1,9 +1,9 @@
 -- The sizes that follow from settings in range: each is as `Sound` says. Assumes nothing.
-use mathlib.Core.Path.{_≡_, refl, sym, ap, _∙_}
+use mathlib.Core.Path.{_≡_, refl, ap, _∙_}
 use Prim.Native.Nat.{ℕ, _+_, _-_, _*_, _/_, _^_, _≤_, _<_}
 use native.Mathlib.Nat.{div-le-self, mul-le-mul}
 use native.Mathlib.Omega.{arith}
-use Rattle.paper.specs.Layer.{allowed, tmin, tmax}
+use Rattle.paper.specs.Layer.{tmin, tmax}
 use Rattle.paper.specs.Table.{rows, cells}
 use Rattle.paper.specs.Sequence.{M}
 use Rattle.paper.specs.Sheets.{heights, entries}

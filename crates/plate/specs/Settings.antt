@@ -10,7 +10,7 @@ use Rattle.paper.specs.Layer.{tmin, tmax}
 use Rattle.paper.specs.Table.{rows, cells}
 use Rattle.paper.specs.Sequence.{M}
 use Rattle.paper.specs.Sheets.{entries}
-use Rattle.plate.specs.Refusal.{numberOf, Told, done, refused, Numbered, check, decided}
+use Rattle.plate.specs.Refusal.{numberOf, Told, done, refused, Numbered, check}
 use Rattle.plate.specs.declared.settings.Settings.{Settings}
 use Rattle.plate.specs.declared.settings.Made.{Made}
 use Rattle.plate.specs.declared.settings.Made.the-variants.{Good, Bad}

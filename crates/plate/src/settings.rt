@@ -1,6 +1,5 @@
 // The settings of a plate: a height and a thickness set, with the sizes that follow from them.
 ghost use mathlib.Core.Path.{_≡_};
-ghost use Prim.Native.Nat.{_≤_};
 ghost use Rattle.paper.specs.Layer.{allowed, tmin, tmax};
 ghost use Rattle.plate.specs.Refusal.{decided};
 ghost use Rattle.plate.specs.Settings.{settingsChecks, settingsOf, toldMade, Passed};

@@ -1,21 +1,19 @@
 -- The mission, demand by demand, each one theorem over document 01's own definitions. Assumes nothing.
 use mathlib.Core.Path.{_≡_, refl, sym, ap, ap₂, _∙_, subst}
-use mathlib.Core.Logic.{_⊎_, inl, inr}
+use mathlib.Core.Logic.{inl, inr}
 use mathlib.Core.List.{List, [], _∷_, _++_}
-use mathlib.Core.Option.{none}
-use Prim.Native.Nat.{ℕ, _+_, _-_, _≤_, _<_}
+use Prim.Native.Nat.{ℕ, _+_, _≤_, _<_}
 use native.Mathlib.Omega.{arith}
 use borrow.Author.Tests.{le-ltb}
 use lib.IntN.{ℤ}
 use lib.ListN.{length, take}
-use Rattle.lists.specs.Checks.{first}
 use Rattle.paper.specs.Layer as paper
 use Rattle.paper.specs.Layer.{ofColumns}
 use Rattle.paper.specs.Table.{cells, mostColumns, InBounds, Table, cellAt, ofTable}
-use Rattle.paper.specs.Sequence.{M, Chosen, None, error}
+use Rattle.paper.specs.Sequence.{M, None}
 use Rattle.paper.specs.Sheets.{entries}
-use Rattle.plate.specs.Refusal.{Told, done, refused, decided, after}
-use Rattle.plate.proofs.Decided.{settings-good, after-done}
+use Rattle.plate.specs.Refusal.{Told, done, refused, after}
+use Rattle.plate.proofs.Decided.{settings-good}
 use Rattle.table.specs.Calls.{short, outCell}
 use Rattle.plan.specs.Plan.{Sheets, boundChecks, planRest, planAnswer, planned, planSheets}
 use Rattle.plan.specs.Reading.{readAnswer, readOut}

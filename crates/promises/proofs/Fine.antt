@@ -1,26 +1,24 @@
 -- When no check of a call holds: settings in range, a column in order, a buffer with room, cells in bounds. Assumes nothing.
-use mathlib.Core.Path.{_≡_, refl, sym, ap, _∙_, subst}
-use mathlib.Core.Logic.{_↔_}
+use mathlib.Core.Path.{_≡_, refl}
 use mathlib.Core.Bool.{Bool, true, false, cond, _&&_, _||_}
-use mathlib.Core.List.{List, [], _∷_, _++_}
-use mathlib.Core.Option.{Option, none, some}
-use Prim.Native.Nat.{ℕ, zero, suc, _+_, _-_, _*_, _/_, _%_, _≤_, _<_}
+use mathlib.Core.List.{List}
+use mathlib.Core.Option.{none}
+use Prim.Native.Nat.{ℕ, zero, suc, _-_, _%_, _≤_, _<_}
 use native.Mathlib.Omega.{arith}
 use borrow.Author.Tests.{le-ltb, lt-leb, ne-eqb, ltb-false, leb-false, eqb-false}
 use lib.Dec.{ltb, leb, eqb}
 use lib.ListN.{length, getD}
-use Rattle.lists.specs.Checks.{Check, first}
+use Rattle.lists.specs.Checks.{first}
 use Rattle.lists.specs.Search.{lowest}
 use Rattle.lists.proofs.Checks.{first-none}
 use Rattle.lists.proofs.Search.{lowest-none, lowest-before}
 use Rattle.paper.specs.Layer as paper
-use Rattle.paper.specs.Layer.{tmax, allowed, Column, shares, ofColumns}
-use Rattle.paper.specs.Table.{cells, cellOf, thicknessAt, limit, Table, InBounds}
+use Rattle.paper.specs.Layer.{Column}
+use Rattle.paper.specs.Table.{cells, thicknessAt, limit}
 use Rattle.paper.proofs.Thicknesses.{empty-is-zero}
 use Rattle.plate.specs.Settings.{settingsChecks}
 use Rattle.plate.proofs.Sizes.{some-member}
 use Rattle.column.specs.Order.{misplaced, firstMisplaced, columnChecks}
-use Rattle.column.proofs.Shares.{share-le}
 use Rattle.table.specs.Cells.{outOfBounds, firstOut, addend, overfull, firstOverfull, notPart, firstNotPart}
 
 pub or-false : (a b : Bool) → a || b ≡ false → (a ≡ false) × (b ≡ false)

@@ -1,18 +1,17 @@
 -- Demand 3 on least errors, for columns dealt into groups and for any tables joined. The layers' errors of the whole are the sums of the
 -- parts', by the laws on shares or by what the calls leave in each cell; the rest is `meaning`'s theorem on plates whose errors add up.
 -- Assumes nothing.
-use mathlib.Core.Path.{_≡_, refl, sym, ap, ap₂, _∙_, subst}
+use mathlib.Core.Path.{_≡_, refl, sym, ap, ap₂, _∙_}
 use mathlib.Core.List.{List, [], _∷_, _++_, map, flatten, Perm}
-use Prim.Native.Nat.{ℕ, _+_, _≤_, _<_}
+use Prim.Native.Nat.{ℕ, _+_, _≤_}
 use native.Mathlib.Omega.{arith}
 use lib.IntN.{ℤ}
-use lib.ListN.{getD}
 use Rattle.paper.specs.Layer as paper
 use Rattle.paper.specs.Layer.{shares, ofColumns}
-use Rattle.paper.specs.Table.{cells, InBounds, mostColumns, cellAt, ofTable}
+use Rattle.paper.specs.Table.{mostColumns, cellAt, ofTable}
 use Rattle.paper.specs.Sequence.{count, Admissible}
 use Rattle.paper.specs.Groups.{AddUp}
-use Rattle.plate.specs.Refusal.{Told, done}
+use Rattle.plate.specs.Refusal.{Told}
 use Rattle.table.specs.Tabled.{tallyOf}
 use Rattle.table.specs.Calls.{joined}
 use Rattle.meaning.specs.Working.{cellSum}

@@ -2,20 +2,20 @@
 -- and never 12; the list has the leasts. The rules that a table is planned by are those of the table's plate, so the chosen sequence of
 -- the planner is document 01's; the entries that are read are the leasts and last thicknesses, so the walk is the chosen one.
 -- Assumes nothing.
-use mathlib.Core.Path.{_≡_, refl, sym, ap, ap₂, _∙_, subst, fun-ext}
-use mathlib.Core.Logic.{_⊎_, inl, inr}
-use mathlib.Core.Bool.{Bool, true, false, cond, _&&_, _||_}
-use mathlib.Core.List.{List, [], _∷_, _++_, map}
+use mathlib.Core.Path.{_≡_, refl, sym, ap, ap₂, _∙_, fun-ext}
+use mathlib.Core.Logic.{inl, inr}
+use mathlib.Core.Bool.{Bool, true, false, cond}
+use mathlib.Core.List.{List, [], _++_, map}
 use mathlib.Core.Option.{Option, none, some, Option·map}
-use Prim.Native.Nat.{ℕ, zero, suc, _+_, _-_, _*_, _≤_, _<_}
+use Prim.Native.Nat.{ℕ, suc, _+_, _-_, _*_, _≤_, _<_}
 use native.Mathlib.Nat.{mul-le-mul}
 use native.Mathlib.Omega.{arith}
 use borrow.Author.Tests.{leb-true, ltb-true, le-ltb, ne-eqb}
-use lib.Dec.{leb, ltb, eqb}
+use lib.Dec.{leb, ltb}
 use lib.IntN.{ℤ, pos, negsuc, _+ℤ_}
 use lib.ListN.{length, getD, drop}
 use Rattle.lists.specs.Checks.{first}
-use Rattle.lists.specs.Best.{Best, nothing, found, value, place, bestOf}
+use Rattle.lists.specs.Best.{Best, nothing, found, value, place}
 use Rattle.lists.specs.Rewrite.{rewritten}
 use Rattle.lists.proofs.Best.{best-in, best-same}
 use Rattle.lists.proofs.Rewrite.{rewritten-at, length-rewritten}
@@ -24,9 +24,8 @@ use Rattle.paper.specs.Layer.{tmax}
 use Rattle.paper.specs.Table.{natural, cellAt, ofTable}
 use Rattle.paper.specs.Sequence.{M, Chosen, None, error}
 use Rattle.paper.specs.Sheets.{entries, missing}
-use Rattle.paper.proofs.Thicknesses.{and-true, tmax-le}
-use Rattle.plate.specs.Datum.{datum, heightOf}
-use Rattle.plate.specs.Settings.{Sound, settingsOf}
+use Rattle.paper.proofs.Thicknesses.{and-true}
+use Rattle.plate.specs.Datum.{heightOf}
 use Rattle.plate.specs.Refusal.{Told, done, refused, decided, after}
 use Rattle.plate.proofs.Datum.{sum-height}
 use Rattle.plate.proofs.Sizes.{sound}
@@ -36,12 +35,11 @@ use Rattle.sequence.specs.Least as working-least
 use Rattle.sequence.specs.Rules.{rules, shape}
 use Rattle.sequence.specs.Sheets.{mark, unmark, errorEntry, thicknessEntry, entry, endOf, faultUnder, boundariesUnder}
 use Rattle.sequence.proofs.Bounds.{least-bound}
-use Rattle.sequence.proofs.Choice.{top-chosen}
 use Rattle.sequence.proofs.Marks.{Small, unmark-mark}
 use Rattle.sequence.proofs.Sheets.{entry-is, no-fault, walked}
 use Rattle.plan.specs.Plan.{Sheets, planned}
 use Rattle.plan.specs.Planning.{tableCell, planRules, plannedErrors, plannedThicknesses, plannedList}
-use Rattle.plan.specs.Reading.{roomChecks, entryChecks, readChecks, readAnswer, readOut, isNothing, isFault, layerOf, walkFault}
+use Rattle.plan.specs.Reading.{roomChecks, entryChecks, readChecks, readAnswer, readOut}
 use Rattle.meaning.specs.Working as meaning
 use Rattle.meaning.proofs.Choice.{found-exact, found-none, chosen-error, listed, listed-none}
 use Rattle.promises.specs.Plans.{Answers}

@@ -23,7 +23,7 @@ use Rattle.paper.specs.Sequence.{_!_, count, thickness, errorAt, Admissible, er
 use Rattle.paper.specs.Groups.{Usable}
 use Rattle.paper.proofs.Thicknesses.{allowed-from, tmax-le}
 use Rattle.plate.specs.Datum.{datum, heightOf}
-use Rattle.plate.specs.Refusal.{done, toldBy, decided}
+use Rattle.plate.specs.Refusal.{done, toldBy}
 use Rattle.plate.specs.Settings.{settingsChecks}
 use Rattle.plate.proofs.Datum.{height-datum, pos-height, neg-height, sum-height, le-up, le-down, lt-up, lt-down, datum-above}
 use Rattle.plate.proofs.Decided.{decided-passed, told-done}

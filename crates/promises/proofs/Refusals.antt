@@ -4,7 +4,7 @@ use mathlib.Core.List.{[], _∷_, _++_}
 use Rattle.plate.specs.Settings.{settingsChecks}
 use Rattle.plate.proofs.Decided.{refused-exactly}
 use Rattle.column.specs.Picture.{pictureChecks, pictureAnswer}
-use Rattle.motor.specs.Height.{heightChecks, heightAnswer}
+use Rattle.motor.specs.Height.{heightChecks}
 use Rattle.table.specs.Calls.{short, tableChecks, clearAnswer, addRest, addAnswer, pairChecks, joinRest, joinAnswer, takeRest, takeAnswer}
 use Rattle.plan.specs.Plan.{planRest, planAnswer}
 use Rattle.plan.specs.Reading.{readChecks, readAnswer}

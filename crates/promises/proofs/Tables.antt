@@ -12,12 +12,11 @@ use native.Mathlib.Omega.{arith}
 use lib.IntN.{ℤ}
 use lib.ListN.{length, getD, length-append}
 use Rattle.lists.specs.Checks.{first}
-use Rattle.lists.specs.Rewrite.{rewritten}
 use Rattle.lists.proofs.Rewrite.{rewritten-at, length-rewritten}
 use Rattle.paper.specs.Layer as paper
 use Rattle.paper.specs.Layer.{allowed, Column, share, shares, ofColumns}
 use Rattle.paper.specs.Table.{cells, startAt, thicknessAt, cellOf, limit, Table, InBounds, mostColumns}
-use Rattle.plate.specs.Refusal.{Told, done, refused, toldBy, decided, after}
+use Rattle.plate.specs.Refusal.{Told, done, toldBy, decided, after}
 use Rattle.plate.specs.Settings.{settingsChecks}
 use Rattle.plate.proofs.Decided.{decided-passed, settings-good}
 use Rattle.column.proofs.Shares.{share-le}

@@ -1,7 +1,6 @@
 -- Answers are told apart by what they tell, since no two reasons have one number; and what a refused call leaves is what it was lent, by
 -- the definition of what it leaves. Assumes nothing.
-use mathlib.Core.Path.{_≡_, refl, sym, ap, _∙_}
-use mathlib.Core.List.{List}
+use mathlib.Core.Path.{_≡_, ap}
 use Prim.Native.Nat.{ℕ}
 use native.Mathlib.Omega.{arith}
 use Rattle.plate.specs.Refusal.{Told, refused, after, numberOf, told, refusal}
@@ -16,7 +15,7 @@ use Rattle.motor.proofs.Heights.{told-lifted-only}
 use Rattle.table.specs.Tabled.{toldTable}
 use Rattle.table.specs.declared.Tabled.{Tabled}
 use Rattle.table.specs.declared.Tabled.the-variants as tabled
-use Rattle.table.specs.Calls.{clearAnswer, clearTable, cleared, addTable, added, joinTable, joined, takeTable, taken}
+use Rattle.table.specs.Calls.{clearTable, addTable, joinTable, takeTable}
 use Rattle.plan.specs.Plan.{planSheets}
 use Rattle.plan.specs.Reading.{readOut}
 use Rattle.promises.specs.Told.{Only, Unwritten}

@@ -4,7 +4,7 @@ use mathlib.Core.Path.{_≡_}
 use mathlib.Core.Logic.{_⊎_}
 use mathlib.Core.List.{List, _++_}
 use lib.IntN.{ℤ}
-use lib.ListN.{length, drop}
+use lib.ListN.{drop}
 use Rattle.paper.specs.Layer.{Plate}
 use Rattle.paper.specs.Sequence.{Chosen, None, error}
 use Rattle.plate.specs.Refusal.{Told, done, refused}

@@ -4,7 +4,7 @@ use mathlib.Core.Path.{_≡_}
 use mathlib.Core.List.{List}
 use lib.IntN.{ℤ}
 use lib.ListN.{length}
-use Rattle.plate.specs.Refusal.{Told, refused, told}
+use Rattle.plate.specs.Refusal.{refused, told}
 use Rattle.plate.specs.declared.refusal.Answer.{Answer}
 use Rattle.column.specs.Picture.{toldPicture}
 use Rattle.column.specs.declared.Pictured.{Pictured}

@@ -1,21 +1,16 @@
 -- What code over the sheets needs: heights under the lowest start have none, sums are bounded, a height can have only so many counts and
 -- so few, and no sequence has more than M layers. Each by induction on the layers from the top down. Assumes nothing.
-use Prim.Native.Nat.{ℕ, zero, suc, _+_, _-_, _*_, _/_, _≤_, _<_}
-use mathlib.Core.Path.{_≡_, refl, sym, _∙_, ap, subst}
+use Prim.Native.Nat.{ℕ, _+_, _-_, _*_, _/_, _≤_, _<_}
+use mathlib.Core.Path.{_≡_, refl, _∙_, ap, subst}
 use mathlib.Core.Logic.{_↔_}
-use mathlib.Core.Bool.{Bool, true, false, cond}
 use mathlib.Core.Option.{Option, none, some}
 use mathlib.Core.List.{List, [], _∷_}
 use native.Mathlib.Omega.{arith}
 use native.Mathlib.Nat.{le-div-iff-mul-le}
-use lib.Dec.{ltb}
 use lib.ListN.{length}
-use borrow.Author.Tests.{lt-ltb, le-ltb}
-use Rattle.lists.specs.Best.{Best, nothing, found, value, place, better, bestOf}
-use Rattle.sequence.specs.Sequence.{Rules, Starts, Ends, Layer, Built, errorOf, Sequence, Admissible, count, error}
+use Rattle.sequence.specs.Sequence.{Rules, Layer, Built, errorOf, Sequence, Admissible, count}
 use Rattle.sequence.specs.Least.{least, walk}
-use Rattle.lists.proofs.Best.{none-not-some}
-use Rattle.sequence.proofs.Least.{AtMost, Walked, walk-is, least-le}
+use Rattle.sequence.proofs.Least.{AtMost, walk-is, least-le}
 
 pub built-low : (p : Rules) (h : ℕ) (ts : List ℕ) → Built p h ts → 32 < h + p .tmax
 built-low p h [] b = b .from
@@ -63,13 +58,6 @@ count-le p lo pos f s a =
     let x = count-low p lo f (s .top) (s .layers) (a .built) in
     let y = a .ends .to in
     le-div-iff-mul-le pos .1 (omega arith)
-
-pub count-pos : (p : Rules) → 1 ≤ p .height → (s : Sequence) → Admissible p s → 1 ≤ count s
-count-pos p pos s a = go (s .layers) (a .built)
-  where
-    go : (ts : List ℕ) → Built p (s .top) ts → 1 ≤ length ts
-    go [] b = let x = b .to in let y = a .ends .from in absurd (omega arith)
-    go (t ∷ ts) b = omega arith
 
 -- and at least as many as the rise asks for
 pub count-high : (p : Rules) (h : ℕ) (ts : List ℕ) → Built p h ts → h ≤ 32 + length ts * p .tmax

@@ -1,17 +1,15 @@
 -- The chosen sequence of a plate: there is one exactly where there is an admissible one of that count, and it is the only one.
 -- Assumes nothing.
-use Prim.Native.Nat.{ℕ, zero, suc, _+_, _-_, _≤_, _<_}
+use Prim.Native.Nat.{ℕ, _+_, _≤_, _<_}
 use mathlib.Core.Path.{_≡_, refl, sym, _∙_, ap, subst}
-use mathlib.Core.Logic.{_⊎_, inl, inr, ⊎-elim, _↔_}
+use mathlib.Core.Logic.{inl, inr, _↔_}
 use mathlib.Core.Option.{Option, none, some}
-use mathlib.Core.List.{List, [], _∷_}
 use native.Mathlib.Omega.{arith}
 use native.Mathlib.Decide.{decLt}
-use lib.ListN.{length}
-use Rattle.lists.specs.Best.{Best, nothing, found, value, place, better, bestOf}
-use Rattle.sequence.specs.Sequence.{Rules, Starts, Ends, Layer, Built, errorOf, Sequence, Admissible, count, error, First, Before, Chosen}
-use Rattle.sequence.specs.Least.{least, last, walk, top, fromTop, chosen, leastOf}
-use Rattle.lists.proofs.Best.{Beats, nothing-not-found, none-not-some, best-in, best-beats}
+use Rattle.lists.specs.Best.{Best, nothing, found, value}
+use Rattle.sequence.specs.Sequence.{Rules, Sequence, Admissible, count, error, First, Before, Chosen}
+use Rattle.sequence.specs.Least.{least, walk, top, fromTop, chosen, leastOf}
+use Rattle.lists.proofs.Best.{Beats, none-not-some, best-in, best-beats}
 use Rattle.sequence.proofs.Order.{before-antisym}
 use Rattle.sequence.proofs.Least.{AtMost, at-most-some, Walked, walk-is, least-le, walk-first}
 

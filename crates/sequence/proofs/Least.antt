@@ -2,7 +2,7 @@
 -- Assumes nothing.
 use Prim.Native.Nat.{ℕ, zero, suc, _+_, _-_, _≤_, _<_}
 use mathlib.Core.Path.{_≡_, refl, sym, _∙_, ap, subst}
-use mathlib.Core.Logic.{_⊎_, inl, inr, ⊎-elim}
+use mathlib.Core.Logic.{inl, inr}
 use mathlib.Core.Bool.{Bool, true, false, cond, _&&_}
 use mathlib.Core.Option.{Option, none, some}
 use mathlib.Core.List.{List, [], _∷_}
@@ -10,12 +10,12 @@ use native.Mathlib.Omega.{arith}
 use native.Mathlib.Decide.{decLt}
 use lib.Dec.{ltb, leb}
 use lib.ListN.{length}
-use borrow.Author.Tests.{ltb-true, ltb-false, leb-true, lt-ltb, le-leb}
-use Rattle.lists.specs.Best.{Best, nothing, found, value, place, better, bestOf}
+use borrow.Author.Tests.{ltb-true, leb-true, lt-ltb, le-leb}
+use Rattle.lists.specs.Best.{Best, nothing, found, value, place, bestOf}
 use Rattle.paper.proofs.Thicknesses.{and-true}
 use Rattle.sequence.specs.Sequence.{Rules, Starts, Layer, Built, errorOf, First}
 use Rattle.sequence.specs.Least.{plus, via, least, last, walk}
-use Rattle.lists.proofs.Best.{Beats, nothing-not-found, none-not-some, best-in, best-beats}
+use Rattle.lists.proofs.Best.{Beats, none-not-some, best-in, best-beats}
 
 -- o is there, and at most e
 abbrev pub AtMost : Option ℕ → ℕ → Type 0

@@ -1,13 +1,12 @@
 -- The tie order: it is reflexive, transitive, total, and two that precede one another are equal.
 -- Assumes nothing.
-use Prim.Native.Nat.{ℕ, zero, suc, _+_, _≤_, _<_}
-use mathlib.Core.Path.{_≡_, refl, sym, _∙_, ap, ap₂, subst}
-use mathlib.Core.Logic.{_⊎_, inl, inr, ⊎-elim}
+use Prim.Native.Nat.{ℕ, _<_}
+use mathlib.Core.Path.{_≡_, refl, ap₂}
+use mathlib.Core.Logic.{_⊎_, inl, inr}
 use mathlib.Core.List.{List, [], _∷_}
 use native.Mathlib.Omega.{arith}
-use native.Mathlib.Decide.{decLt, ℕ-discrete}
-use lib.ListN.{length}
-use Rattle.sequence.specs.Sequence.{Sequence, First, Before, count}
+use native.Mathlib.Decide.{decLt}
+use Rattle.sequence.specs.Sequence.{Sequence, First, Before}
 
 pub first-refl : (us : List ℕ) → First us us
 first-refl [] = tt

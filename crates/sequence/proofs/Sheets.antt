@@ -1,32 +1,28 @@
 -- Reading back from the sheets that a plan leaves gives the chosen sequence, and never a fault: the entries at the end heights are the
 -- leasts there, so the walk starts at the chosen top, and each thickness that it looks up is that of the chosen last layer. Assumes nothing.
-use Prim.Native.Nat.{ℕ, zero, suc, _+_, _-_, _*_, _/_, _%_, _≤_, _<_}
-use mathlib.Core.Path.{_≡_, refl, sym, _∙_, ap, ap₂, subst}
-use mathlib.Core.Bool.{Bool, true, false, cond, _&&_}
-use mathlib.Core.Option.{Option, none, some}
-use mathlib.Core.List.{List, [], _∷_, _++_, map}
+use Prim.Native.Nat.{ℕ, zero, suc, _+_, _-_, _*_, _≤_, _<_}
+use mathlib.Core.Path.{_≡_, refl, _∙_, ap}
+use mathlib.Core.Bool.{true, _&&_}
+use mathlib.Core.Option.{none, some}
+use mathlib.Core.List.{List, _∷_, _++_, map}
 use native.Mathlib.Omega.{arith}
 use lib.Dec.{leb}
 use lib.IntN.{ℤ, subℕ}
 use lib.ListN.{getD}
 use borrow.Author.Tests.{le-leb}
-use Rattle.lists.specs.Best.{Best, nothing, found, bestOf}
 use Rattle.lists.specs.Grid.{flat}
-use Rattle.lists.proofs.Best.{best-in, best-same}
 use Rattle.lists.proofs.Grid.{flat-at}
 use lib.Arith.{digits-lt}
 use Rattle.paper.specs.Layer.{allowed, tmax}
 use Rattle.paper.specs.Sequence.{M}
-use Rattle.paper.specs.Sheets.{heights, entries, missing}
+use Rattle.paper.specs.Sheets.{heights, entries}
 use Rattle.paper.proofs.Thicknesses.{and-true}
-use Rattle.sequence.specs.Sequence.{Rules, Layer, Sequence, error, upFrom, boundaries}
-use Rattle.sequence.specs.Least.{least, last, walk, top, fromTop, chosen}
+use Rattle.sequence.specs.Sequence.{Rules, upFrom}
+use Rattle.sequence.specs.Least.{least, last, walk}
 use Rattle.sequence.specs.Rules.{rules, shape}
-use Rattle.sequence.specs.Sheets.{mark, unmark, errorEntry, thicknessEntry, entry, endOf, faultUnder, boundariesUnder}
-use Rattle.sequence.proofs.Least.{Walked, walk-is, Step, least-step, some-starts}
-use Rattle.sequence.proofs.Bounds.{built-low, least-bound}
-use Rattle.sequence.proofs.Choice.{top-chosen}
-use Rattle.sequence.proofs.Marks.{Small, unmark-mark}
+use Rattle.sequence.specs.Sheets.{entry, faultUnder, boundariesUnder}
+use Rattle.sequence.proofs.Least.{walk-is, least-step, some-starts}
+use Rattle.sequence.proofs.Bounds.{built-low}
 
 pub shape-allowed : (N T h t : ℕ) → shape N T h t ≡ true → allowed T t ≡ true
 unfolding shape

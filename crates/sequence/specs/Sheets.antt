@@ -1,13 +1,13 @@
 -- The sheets of a plan as lists of numbers, and reading a sequence back from two sheets, which may hold anything. Heights are counted from
 -- the datum: h stands for z = h - 32. Assumes nothing.
 use Prim.Native.Nat.{ℕ, zero, suc, _+_, _-_, _*_}
-use mathlib.Core.Bool.{Bool, true, false, cond, _&&_}
+use mathlib.Core.Bool.{cond, _&&_}
 use mathlib.Core.Option.{Option, none, some}
 use mathlib.Core.List.{List, _∷_}
 use lib.Dec.{leb, eqb}
 use lib.IntN.{ℤ, subℕ}
 use lib.ListN.{getD}
-use Rattle.lists.specs.Best.{Best, nothing, found, bestOf}
+use Rattle.lists.specs.Best.{Best, bestOf}
 use Rattle.lists.specs.Grid.{flat}
 use Rattle.paper.specs.Layer.{allowed, tmax}
 use Rattle.paper.specs.Sequence.{M}

@@ -1,28 +1,25 @@
 -- The ways out of the calls on a table: for each test that fails the refusal that document 01 gives, and the answer where none does.
 -- Each law takes the facts of the tests passed so far and says what the call's list of checks then comes to. Assumes nothing.
-use mathlib.Core.Path.{_≡_, refl, sym, ap, _∙_, subst}
-use mathlib.Core.Bool.{Bool, true, false, cond, not, _&&_, _||_}
+use mathlib.Core.Path.{_≡_, sym, ap, _∙_}
+use mathlib.Core.Bool.{not, _&&_}
 use mathlib.Core.List.{List, [], _∷_, _++_}
-use mathlib.Core.Option.{Option, none, some}
+use mathlib.Core.Option.{none, some}
 use Prim.Native.Nat.{ℕ, _+_, _-_, _≤_, _<_}
-use native.Mathlib.Omega.{arith}
-use borrow.Author.Tests.{lt-ltb, le-ltb, le-leb, lt-leb, eq-eqb, ne-eqb, ltb-false}
-use lib.Dec.{ltb, leb, eqb}
-use lib.ListN.{length, getD}
-use Rattle.lists.specs.Checks.{Check, first, Quiet}
-use Rattle.lists.proofs.Checks.{first-passed, first-stopped, first-none}
-use Rattle.lists.proofs.Search.{lowest-before}
-use Rattle.paper.specs.Table.{cells, mostColumns, limit, thicknessAt}
-use Rattle.plate.specs.Refusal.{numberOf, Told, done, refused, Numbered, check, toldBy, decided, after}
+use borrow.Author.Tests.{lt-ltb, le-ltb, le-leb, lt-leb, eq-eqb, ne-eqb}
+use lib.Dec.{eqb}
+use lib.ListN.{length}
+use Rattle.lists.specs.Checks.{Check, first}
+use Rattle.paper.specs.Table.{cells, mostColumns}
+use Rattle.plate.specs.Refusal.{numberOf, Told, done, refused, Numbered, check, decided, after}
 use Rattle.plate.specs.Settings.{settingsChecks, settingsOf, toldMade}
 use Rattle.plate.specs.declared.settings.Made.the-variants.{Bad}
 use Rattle.plate.specs.declared.refusal.Reason.{Reason}
-use Rattle.plate.proofs.Decided.{decided-passed, decided-said, settings-good, settings-said, settings-pass, after-refused, after-done}
+use Rattle.plate.proofs.Decided.{decided-passed, decided-said, settings-good, settings-said, settings-pass, after-refused}
 use Rattle.column.specs.Order.{columnChecks}
 use Rattle.table.specs.declared.Tally.{Tally}
 use Rattle.table.specs.declared.Tabled.{Tabled}
-use Rattle.table.specs.declared.Tabled.the-variants.{Done, Refused}
-use Rattle.table.specs.Cells.{outOfBounds, firstOut, addend, overfull, firstOverfull, notPart, firstNotPart}
+use Rattle.table.specs.declared.Tabled.the-variants.{Refused}
+use Rattle.table.specs.Cells.{firstOut, firstOverfull, firstNotPart}
 use Rattle.table.specs.Tabled.{toldTable, tallyOf}
 use Rattle.table.specs.Calls.{short, outCell, tableRest, clearAnswer, overfullCell, addRest, pairChecks, pairOut, joinRest, partChecks, takeRest}
 

@@ -1,15 +1,15 @@
 -- Cells in bounds: what the searches for 6 and 9 tell of every cell where they find none, and that sums and differences then fit.
 -- Assumes nothing.
-use mathlib.Core.Path.{_≡_, refl, sym, ap, _∙_, subst}
+use mathlib.Core.Path.{_≡_, refl, sym}
 use mathlib.Core.Bool.{Bool, true, false, _&&_, _||_}
-use mathlib.Core.List.{List, [], _∷_}
+use mathlib.Core.List.{List}
 use mathlib.Core.Option.{none}
-use Prim.Native.Nat.{ℕ, _+_, _-_, _%_, _≤_, _<_}
+use Prim.Native.Nat.{ℕ, _+_, _-_, _≤_, _<_}
 use native.Mathlib.Nat.{mod-lt}
 use native.Mathlib.Omega.{arith}
 use borrow.Author.Tests.{ltb-false}
 use lib.Dec.{ltb}
-use lib.ListN.{length, getD}
+use lib.ListN.{getD}
 use Rattle.lists.specs.Checks.{first}
 use Rattle.lists.proofs.Checks.{first-none}
 use Rattle.lists.proofs.Search.{lowest-before}
@@ -66,9 +66,3 @@ module _ (N T d : ℕ) (table other : List ℕ) where
   part-le h i l =
       ltb-false _ _
       (or-false (ltb (getD table i 0) (getD other i 0)) (ltb (limit T d (thicknessAt T i)) (getD table i 0 - getD other i 0)) (lowest-before (notPart T d table other) (cells N T) i (omega arith)) .0)
-
-  pub part-within : cells N T ≤ firstNotPart N T d table other → (i : ℕ) → i < cells N T → getD table i 0 - getD other i 0 ≤ limit T d (thicknessAt T i)
-  unfolding firstNotPart notPart
-  part-within h i l =
-      ltb-false _ _
-      (or-false (ltb (getD table i 0) (getD other i 0)) (ltb (limit T d (thicknessAt T i)) (getD table i 0 - getD other i 0)) (lowest-before (notPart T d table other) (cells N T) i (omega arith)) .1)

@@ -1,6 +1,6 @@
 -- The limits of the thicknesses, and what each test of a row's loop says. Assumes nothing.
-use mathlib.Core.Path.{_≡_, refl, sym, ap, _∙_}
-use mathlib.Core.Bool.{Bool, true, false, cond, _&&_, _||_}
+use mathlib.Core.Path.{_≡_}
+use mathlib.Core.Bool.{Bool, true, false, cond}
 use mathlib.Core.List.{List}
 use Prim.Native.Nat.{ℕ, _+_, _-_, _*_, _/_, _≤_, _<_}
 use native.Mathlib.Nat.{mul-le-mul}
@@ -11,7 +11,7 @@ use lib.ListN.{getD}
 use Rattle.paper.specs.Layer.{allowed}
 use Rattle.paper.specs.Table.{limit}
 use Rattle.table.specs.Cells.{addend}
-use Rattle.table.specs.Limits.{Limits, above, heaped, apart}
+use Rattle.table.specs.Limits.{above, heaped, apart}
 
 pub limit-allowed : (T c t : ℕ) → allowed T t ≡ true → limit T c t ≡ c * (t / 2)
 unfolding limit

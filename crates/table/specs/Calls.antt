@@ -1,7 +1,7 @@
 -- Document 01, 'What comes back': clear a table, add a column, join, take off. For each call its refusals in their order, its answer, and
 -- the table that it leaves. Assumes nothing.
 use Prim.Native.Nat.{ℕ, _+_, _-_}
-use mathlib.Core.Bool.{Bool, not, _&&_, _||_}
+use mathlib.Core.Bool.{not, _&&_, _||_}
 use mathlib.Core.List.{List, [], _∷_, _++_}
 use mathlib.Core.Option.{none, some}
 use mathlib.Core.Path.{_≡_}

@@ -1,6 +1,6 @@
 -- The cells of a table one by one: which are out of bounds, what a column adds to each, and which are no part of another table's. Cells are
 -- named by their index, as document 01's refusals name them. Assumes nothing.
-use Prim.Native.Nat.{ℕ, _+_, _-_}
+use Prim.Native.Nat.{ℕ, _-_}
 use mathlib.Core.Bool.{Bool, _&&_, _||_}
 use mathlib.Core.List.{List}
 use lib.Dec.{ltb}

@@ -1,6 +1,5 @@
 // The error table of a plate: clear it, add a column, join a second table into it, take one off.
 ghost use mathlib.Core.Path.{_≡_};
-ghost use mathlib.Core.List.{_++_};
 ghost use Prim.Native.Nat.{ℕ, _+_, _-_, _*_, _<_, _≤_};
 ghost use lib.ListN.{length, getD};
 ghost use Rattle.lists.specs.Checks.{first};
@@ -9,7 +8,7 @@ ghost use Rattle.lists.specs.Rewrite.{Span};
 ghost use Rattle.paper.specs.Table.{limit};
 ghost use Rattle.plate.specs.Checked.{saidBy};
 ghost use Rattle.plate.specs.Refusal.{decided, after};
-ghost use Rattle.plate.specs.Settings.{Sound, Passed, settingsOf, toldMade};
+ghost use Rattle.plate.specs.Settings.{Sound, Passed};
 ghost use Rattle.table.specs.Cells.{firstOut, addend, firstOverfull, firstNotPart};
 ghost use Rattle.table.specs.Tabled.{toldTable, tallyOf};
 ghost use Rattle.table.specs.Limits.{Limits, above, heaped, apart};

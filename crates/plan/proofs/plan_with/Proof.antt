@@ -1,20 +1,19 @@
 -- `plan_with` meets its contract: the four buffers, 7 and 6 by `check_table`, which asks 1, 2 and 3 again and finds them passed, and then
 -- the sheets and the list. Assumes nothing.
-use mathlib.Core.Path.{_≡_, refl, sym, ap, _∙_, subst}
-use mathlib.Core.List.{List}
+use mathlib.Core.Path.{_≡_, refl, sym, ap, _∙_}
 use mathlib.Core.Option.{none}
-use Prim.Native.Nat.{ℕ, _≤_, _<_}
+use Prim.Native.Nat.{_≤_}
 use native.Mathlib.Omega.{arith}
 use borrow.Author.Needs.{needs}
 use lib.ListN.{length}
 use Rattle.paper.specs.Sequence.{M}
 use Rattle.paper.specs.Table.{cells, mostColumns}
 use Rattle.table.specs.Cells.{firstOut}
-use Rattle.plate.specs.Refusal.{Told, done, toldBy, decided, after}
+use Rattle.plate.specs.Refusal.{done, toldBy, decided}
 use Rattle.plate.specs.Checked.{saidBy}
 use Rattle.plate.specs.declared.refusal.Checked.{Checked}
 use Rattle.table.proofs.Cells.{cells-sound}
-use Rattle.plan.specs.Plan.{Sheets, sheetsOf, planRest, planned}
+use Rattle.plan.specs.Plan.{Sheets, sheetsOf, planRest}
 use Rattle.plan.proofs.Places.{counts-is, entries-is}
 use Rattle.plan.proofs.Planning.{stops, short-table, short-errors, short-thicknesses, short-list, said, bounded, ready}
 use Rattle.plan.proofs.plan_with.Statement.{statement}

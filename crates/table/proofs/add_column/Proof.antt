@@ -1,9 +1,9 @@
 -- `add_column` meets its contract: refusals 1 and 2 of the settings, and then those of `add_with`. Assumes nothing.
-use mathlib.Core.Path.{_≡_, refl, sym, ap, _∙_, subst}
-use mathlib.Core.List.{List, _++_}
+use mathlib.Core.Path.{_≡_, sym, ap, _∙_, subst}
+use mathlib.Core.List.{List}
 use Prim.Native.Nat.{ℕ, _+_}
 use borrow.Author.Needs.{needs}
-use Rattle.plate.specs.Refusal.{Told, numberOf, refused, decided, after}
+use Rattle.plate.specs.Refusal.{Told, refused, decided, after}
 use Rattle.plate.specs.Settings.{Passed, settingsChecks, settingsOf, toldMade}
 use Rattle.plate.specs.declared.refusal.Reason.{Reason}
 use Rattle.plate.specs.declared.settings.Made.{Made}

@@ -1,13 +1,12 @@
 -- `add_row` meets its contract: one cell after the other is rewritten; a cell to which nothing is added stays as it is. Assumes nothing.
-use mathlib.Core.Path.{_≡_, refl, sym, ap, _∙_}
+use mathlib.Core.Path.{refl, ap}
 use Prim.Native.Nat.{ℕ, _+_, _-_, _*_, _≤_, _<_}
 use native.Mathlib.Omega.{arith}
-use borrow.Author.Needs.{needs}
-use lib.ListN.{length, getD}
+use lib.ListN.{getD}
 use Rattle.lists.specs.Rewrite.{Span}
 use Rattle.lists.proofs.Spans.{span-none, span-set, span-keep, span-end, span-unread}
 use Rattle.table.specs.Cells.{addend}
-use Rattle.table.proofs.Cells.{cell-in, cell-fits, row-in}
+use Rattle.table.proofs.Cells.{cell-in, row-in}
 use Rattle.table.proofs.add_row.Statement.{statement}
 use Rattle.table.proofs.add_row.Tie as tie
 

@@ -1,13 +1,12 @@
 -- `add_rows` meets its contract: row after row is rewritten, and the rows to come are still as they were. Assumes nothing.
-use mathlib.Core.Path.{_≡_, refl, sym, ap, _∙_, subst}
+use mathlib.Core.Path.{_≡_, sym, ap, _∙_}
 use Prim.Native.Nat.{ℕ, _+_, _-_, _*_, _≤_, _<_}
 use native.Mathlib.Omega.{arith}
-use borrow.Author.Needs.{needs}
-use lib.ListN.{length, getD}
+use lib.ListN.{getD}
 use Rattle.lists.specs.Rewrite.{Span}
 use Rattle.lists.proofs.Spans.{span-none, span-more, span-end}
 use Rattle.table.specs.Cells.{addend}
-use Rattle.table.proofs.Cells.{cell-in, row-in}
+use Rattle.table.proofs.Cells.{cell-in}
 use Rattle.table.proofs.add_rows.Statement.{statement}
 use Rattle.table.proofs.add_rows.Tie as tie
 

@@ -1,6 +1,5 @@
 -- `addend_of` meets its contract: the share in the cell's layer, where its thickness is allowed. Assumes nothing.
-use mathlib.Core.Path.{_≡_, refl, sym, ap, _∙_}
-use Prim.Native.Nat.{_≤_}
+use mathlib.Core.Path.{sym, ap, _∙_}
 use native.Mathlib.Omega.{arith}
 use borrow.Author.Needs.{needs}
 use Rattle.column.specs.declared.Judged.{Judged}

@@ -1,5 +1,5 @@
 -- `check_pair` meets its contract: the first table's cells, then the second's. Assumes nothing.
-use mathlib.Core.Path.{_≡_, refl, sym, ap, _∙_}
+use mathlib.Core.Path.{ap, _∙_}
 use native.Mathlib.Omega.{arith}
 use borrow.Author.Needs.{needs}
 use Rattle.plate.specs.Checked.{saidBy}

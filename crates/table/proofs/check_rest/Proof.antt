@@ -1,5 +1,5 @@
 -- `check_rest` meets its contract: its tests are the checks 3, 7, 6, in their order. Assumes nothing.
-use mathlib.Core.Path.{_≡_, refl, sym, ap, _∙_}
+use mathlib.Core.Path.{ap, _∙_}
 use native.Mathlib.Omega.{arith}
 use borrow.Author.Needs.{needs}
 use Rattle.plate.specs.Checked.{saidBy}

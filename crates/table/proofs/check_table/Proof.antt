@@ -1,11 +1,11 @@
 -- `check_table` meets its contract: refusals 1 and 2 of the settings, and then those of `check_rest`. Assumes nothing.
-use mathlib.Core.Path.{_≡_, refl, sym, ap, _∙_, subst}
-use mathlib.Core.List.{List, _++_}
-use mathlib.Core.Option.{Option, none, some}
+use mathlib.Core.Path.{_≡_, sym, ap, _∙_, subst}
+use mathlib.Core.List.{List}
+use mathlib.Core.Option.{some}
 use Prim.Native.Nat.{ℕ}
 use borrow.Author.Needs.{needs}
 use Rattle.lists.specs.Checks.{first}
-use Rattle.plate.specs.Refusal.{Told, Numbered, numberOf, decided}
+use Rattle.plate.specs.Refusal.{numberOf, decided}
 use Rattle.plate.specs.Checked.{saidBy}
 use Rattle.plate.specs.Settings.{Passed, settingsChecks, settingsOf, toldMade}
 use Rattle.plate.specs.declared.refusal.Reason.{Reason}

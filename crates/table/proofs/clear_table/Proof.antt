@@ -1,6 +1,6 @@
 -- `clear_table` meets its contract: refusals 1, 2 and 3, or every cell is 0. Assumes nothing.
-use mathlib.Core.Path.{_≡_, refl, sym, ap, _∙_, subst}
-use mathlib.Core.List.{List, [], _∷_, _++_}
+use mathlib.Core.Path.{_≡_, sym, ap, _∙_, subst}
+use mathlib.Core.List.{List, [], _∷_}
 use Prim.Native.Nat.{ℕ, _≤_}
 use lib.ListN.{length}
 use native.Mathlib.Omega.{arith}
@@ -8,7 +8,7 @@ use borrow.Author.Needs.{needs}
 use Rattle.lists.specs.Rewrite.{Span}
 use Rattle.lists.proofs.Spans.{span-is}
 use Rattle.paper.specs.Table.{cells}
-use Rattle.plate.specs.Refusal.{Told, refused, numberOf, decided, after}
+use Rattle.plate.specs.Refusal.{refused, numberOf, decided}
 use Rattle.plate.specs.Settings.{Passed, settingsChecks, settingsOf, toldMade}
 use Rattle.plate.specs.declared.refusal.Reason.{Reason}
 use Rattle.plate.specs.declared.settings.Made.{Made}

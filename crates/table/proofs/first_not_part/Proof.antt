@@ -1,10 +1,9 @@
 -- `first_not_part` meets its contract. The loop's invariant: in no row before is a cell no part of the first table's. A row is searched against the limits,
 -- which for its cells is the same test. Assumes nothing.
-use mathlib.Core.Path.{_≡_, refl, sym, ap, _∙_, subst}
+use mathlib.Core.Path.{_≡_}
 use mathlib.Core.Bool.{false}
-use Prim.Native.Nat.{ℕ, _+_, _-_, _*_, _≤_, _<_}
+use Prim.Native.Nat.{ℕ, _-_, _*_, _≤_, _<_}
 use native.Mathlib.Omega.{arith}
-use borrow.Author.Count.{below-none}
 use borrow.Author.Needs.{needs}
 use Rattle.lists.proofs.Search.{row-missed, row-found, missed}
 use Rattle.table.specs.Cells.{notPart, firstNotPart}

@@ -1,10 +1,9 @@
 -- `first_overfull` meets its contract. The loop's invariant: no cell of the rows before is out of bounds and added to. A row is searched against the limits,
 -- which for its cells is the same test. Assumes nothing.
-use mathlib.Core.Path.{_≡_, refl, sym, ap, _∙_, subst}
+use mathlib.Core.Path.{_≡_}
 use mathlib.Core.Bool.{false}
-use Prim.Native.Nat.{ℕ, _+_, _-_, _*_, _≤_, _<_}
+use Prim.Native.Nat.{ℕ, _-_, _*_, _≤_, _<_}
 use native.Mathlib.Omega.{arith}
-use borrow.Author.Count.{below-none}
 use borrow.Author.Needs.{needs}
 use Rattle.lists.proofs.Search.{row-missed, row-found, missed}
 use Rattle.table.specs.Cells.{overfull, firstOverfull}

@@ -1,13 +1,11 @@
 -- `pair_of` meets its contract: the first settings' checks, the second's, and that they are the same. Assumes nothing.
-use mathlib.Core.Path.{_≡_, refl, sym, ap, _∙_, subst}
-use Prim.Native.Nat.{ℕ}
-use native.Mathlib.Omega.{arith}
+use mathlib.Core.Path.{_≡_, sym, ap, _∙_, subst}
 use borrow.Author.Needs.{needs}
 use mathlib.Core.Option.{none}
 use Rattle.lists.specs.Checks.{first}
 use Rattle.plate.specs.Settings.{Passed, settingsChecks, toldMade}
 use Rattle.plate.specs.declared.settings.Made.{Made}
-use Rattle.plate.specs.declared.settings.Made.the-variants.{Good, Bad}
+use Rattle.plate.specs.declared.settings.Made.the-variants.{Good}
 use Rattle.table.proofs.Answers.{pair-bad, pair-bad-other, pair-heights, pair-sets, pair-same}
 use Rattle.table.proofs.pair_of.Statement.{statement}
 use Rattle.table.proofs.pair_of.Tie as tie

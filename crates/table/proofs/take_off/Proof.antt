@@ -1,11 +1,9 @@
 -- `take_off` meets its contract: the refusals of the two settings, and then those of `take_with`. Assumes nothing.
-use mathlib.Core.Path.{_≡_, refl, sym, ap, _∙_, subst}
-use mathlib.Core.List.{List, _++_}
-use mathlib.Core.Option.{some}
-use Prim.Native.Nat.{ℕ, _+_, _-_}
+use mathlib.Core.Path.{_≡_, sym, ap, _∙_, subst}
+use mathlib.Core.List.{List}
+use Prim.Native.Nat.{ℕ, _-_}
 use borrow.Author.Needs.{needs}
-use Rattle.lists.specs.Checks.{first}
-use Rattle.plate.specs.Refusal.{Told, numberOf, refused, decided, after}
+use Rattle.plate.specs.Refusal.{Told, refused, decided, after}
 use Rattle.plate.specs.declared.refusal.Reason.{Reason}
 use Rattle.plate.specs.declared.settings.Made.{Made}
 use Rattle.plate.specs.declared.settings.Made.the-variants.{Good, Bad}

@@ -1,14 +1,13 @@
 -- `take_with` meets its contract: 3, 7, 6, and then the checks of `take_part`. Assumes nothing.
-use mathlib.Core.Path.{_≡_, refl, sym, ap, _∙_, subst}
+use mathlib.Core.Path.{_≡_, refl, sym, ap, _∙_}
 use mathlib.Core.List.{List, _++_}
-use mathlib.Core.Option.{Option, none, some}
-use Prim.Native.Nat.{ℕ, _+_, _-_, _≤_, _<_}
+use mathlib.Core.Option.{none}
+use Prim.Native.Nat.{_-_}
 use native.Mathlib.Omega.{arith}
 use borrow.Author.Needs.{needs}
 use Rattle.lists.specs.Checks.{Check, first}
-use Rattle.plate.specs.Refusal.{Told, Numbered, numberOf, decided, refused, after}
+use Rattle.plate.specs.Refusal.{Told, Numbered, decided, refused, after}
 use Rattle.plate.specs.Checked.{saidBy}
-use Rattle.plate.specs.declared.refusal.Reason.{Reason}
 use Rattle.plate.proofs.Decided.{decided-passed, decided-said}
 use Rattle.table.specs.declared.Tally.{Tally}
 use Rattle.table.specs.Tabled.{tallyOf}

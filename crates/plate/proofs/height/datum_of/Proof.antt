@@ -1,11 +1,11 @@
 -- `datum_of` meets its contract: z + 32 fits 64 bits, and below 0 the answer is 0. Assumes nothing.
 use mathlib.Core.Path.{_≡_, sym, subst, ap, _∙_}
-use mathlib.Core.Bool.{Bool, true, false}
+use mathlib.Core.Bool.{true, false}
 use lib.IntN.{ℤ, pos, natAbs, _+ℤ_}
 use lib.Signed.{ltZ, nonNeg}
 use lib.Dec.{T}
 use mir.Syntax.{w32, w64}
-use mir.Val.{Fits, SFits, toZ, ofZ}
+use mir.Val.{Fits, SFits}
 use mir.ValLaws.{toZ-ofZ}
 use Rattle.plate.proofs.Datum.{datum-sum}
 use Rattle.plate.proofs.Signed.{wide64, plus32, sum-fits, summed, below-zero, cast-unsigned, not-below}

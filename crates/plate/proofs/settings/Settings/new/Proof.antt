@@ -1,15 +1,14 @@
 -- `Settings::new` meets its contract. Past the tests N and T are settings in the paper's sense, so that the least and the greatest
 -- member are there, every size is small, and the sizes are those of `settingsOf`. Assumes nothing.
-use mathlib.Core.Path.{_≡_, refl, sym, ap, _∙_, subst}
+use mathlib.Core.Path.{_≡_, sym, ap, _∙_, subst}
 use mathlib.Core.Option.{Option, none}
-use Prim.Native.Nat.{ℕ, _+_, _-_, _*_, _/_, _≤_, _<_}
-use native.Mathlib.Nat.{div-le-self, mul-le-mul}
+use Prim.Native.Nat.{ℕ}
 use native.Mathlib.Omega.{arith}
 use borrow.Author.Needs.{needs}
 use borrow.Author.Tests.{lt-ltb, le-ltb, eq-eqb, ne-eqb}
 use Rattle.paper.specs.Layer as paper
 use Rattle.lists.specs.Checks.{first}
-use Rattle.plate.specs.Refusal.{Told, done, Numbered, toldBy}
+use Rattle.plate.specs.Refusal.{done, Numbered, toldBy}
 use Rattle.plate.specs.Settings.{settingsChecks, settingsOf, Sound}
 use Rattle.plate.proofs.Sizes.{some-member, sound, madeOf, made-is}
 use Rattle.plate.proofs.settings.Settings.new.Statement.{statement}
