@@ -14,11 +14,12 @@ use Rattle.lists.proofs.Checks.{first-none}
 use Rattle.lists.proofs.Search.{lowest-none, lowest-before}
 use Rattle.paper.specs.Layer as paper
 use Rattle.paper.specs.Layer.{Column}
-use Rattle.paper.specs.Table.{cells, thicknessAt, limit}
+use Rattle.paper.specs.Table.{cells, thicknessAt, limit, mostColumns, InBounds}
 use Rattle.paper.proofs.Thicknesses.{empty-is-zero}
 use Rattle.plate.specs.Settings.{settingsChecks}
 use Rattle.plate.proofs.Sizes.{some-member}
 use Rattle.column.specs.Order.{misplaced, firstMisplaced, columnChecks}
+use Rattle.table.specs.Calls.{outCell, boundChecks}
 use Rattle.table.specs.Cells.{outOfBounds, firstOut, addend, overfull, firstOverfull, notPart, firstNotPart}
 
 pub or-false : (a b : Bool) → a || b ≡ false → (a ≡ false) × (b ≡ false)
@@ -55,6 +56,12 @@ column-fine N bs c =
 pub out-fine : (N T c : ℕ) (table : List ℕ) → ((i : ℕ) → i < cells N T → getD table i 0 ≤ limit T c (thicknessAt T i)) → firstOut N T c table ≡ cells N T
 unfolding firstOut outOfBounds
 out-fine N T c table w = lowest-none (outOfBounds T c table) (cells N T) (λ i l. le-ltb (limit T c (thicknessAt T i)) (getD table i 0) (w i l))
+
+pub bounds-fine : (N T c : ℕ) (table : List ℕ) → InBounds N T c table → first (boundChecks N T c table) ≡ none
+unfolding boundChecks outCell
+bounds-fine N T c table b =
+    let e = out-fine N T c table (b .bounded) in
+    simp (le-ltb mostColumns c (b .columns), e, le-ltb (cells N T) (cells N T) (omega arith))
 
 pub overfull-fine : (N T c : ℕ) (table bs : List ℕ) → ((i : ℕ) → i < cells N T → getD table i 0 ≤ limit T c (thicknessAt T i)) → firstOverfull N T c table bs ≡ cells N T
 unfolding firstOverfull overfull outOfBounds
