@@ -4,8 +4,12 @@ use mathlib.Core.Path.{_≡_}
 use mathlib.Core.List.{List}
 use lib.IntN.{ℤ}
 use lib.ListN.{length}
+use Rattle.plate.specs.Checked.{saidBy}
 use Rattle.plate.specs.Refusal.{refused, told}
+use Rattle.plate.specs.Settings.{toldMade}
 use Rattle.plate.specs.declared.refusal.Answer.{Answer}
+use Rattle.plate.specs.declared.refusal.Checked.{Checked}
+use Rattle.plate.specs.declared.settings.Made.{Made}
 use Rattle.column.specs.Picture.{toldPicture}
 use Rattle.column.specs.declared.Pictured.{Pictured}
 use Rattle.motor.specs.Height.{toldLifted}
@@ -13,6 +17,8 @@ use Rattle.motor.specs.declared.Lifted.{Lifted}
 use Rattle.table.specs.Tabled.{toldTable}
 use Rattle.table.specs.declared.Tabled.{Tabled}
 use Rattle.table.specs.Calls.{clearAnswer, clearTable, addAnswer, addTable, joinAnswer, joinTable, takeAnswer, takeTable}
+use Rattle.job.specs.Record.{toldStep}
+use Rattle.job.specs.declared.Step.{Step}
 use Rattle.plan.specs.Plan.{Sheets, planAnswer, planSheets}
 use Rattle.plan.specs.Reading.{readAnswer, readOut}
 
@@ -22,6 +28,9 @@ pub record Only : Type 0 where
   pub tally : (a b : Tabled) → toldTable a ≡ toldTable b → a ≡ b
   pub picture : (a b : Pictured) → toldPicture a ≡ toldPicture b → a ≡ b
   pub height : (a b : Lifted) → toldLifted a ≡ toldLifted b → a ≡ b
+  pub checks : (a b : Checked) → saidBy a ≡ saidBy b → a ≡ b
+  pub settings : (a b : Made) → toldMade a ≡ toldMade b → a ≡ b
+  pub step : (a b : Step) → toldStep a ≡ toldStep b → a ≡ b
 
 -- a refused call has written nothing into memory lent to it
 pub record Unwritten : Type 0 where
