@@ -1,11 +1,11 @@
 -- Answers are told apart by what they tell, since no two reasons have one number, and a record that was read comes back from what it tells;
 -- and what a refused call leaves is what it was lent, by the definition of what it leaves. Assumes nothing.
-use mathlib.Core.Path.{_≡_, refl, sym, ap, _∙_}
+use mathlib.Core.Path.{_≡_, refl, sym, ap, _∙_, subst}
 use mathlib.Core.Option.{Option}
 use Prim.Native.Nat.{ℕ}
 use native.Mathlib.Omega.{arith}
 use Rattle.plate.specs.Checked.{saidBy}
-use Rattle.plate.specs.Refusal.{Told, done, refused, Numbered, toldBy, after, numberOf, told, refusal}
+use Rattle.plate.specs.Refusal.{Told, done, refused, Numbered, toldBy, decided, after, numberOf, told, refusal}
 use Rattle.plate.specs.Settings.{toldMade}
 use Rattle.plate.specs.declared.refusal.Reason.{Reason}
 use Rattle.plate.specs.declared.refusal.Refusal.{Refusal}
@@ -24,13 +24,16 @@ use Rattle.table.specs.Tabled.{toldTable}
 use Rattle.table.specs.declared.Tabled.{Tabled}
 use Rattle.table.specs.declared.Tabled.the-variants as tabled
 use Rattle.table.specs.Calls.{clearTable, addTable, joinTable, takeTable}
-use Rattle.job.specs.Record.{What, Moved, toldRead, toldStep}
+use Rattle.job.specs.Record.{What, Found, Moved, moved, toldRead, toldStep}
 use Rattle.job.specs.declared.Read.{Read}
 use Rattle.job.specs.declared.Read.the-variants as read
+use Rattle.job.specs.declared.State.{State}
 use Rattle.job.specs.declared.Step.{Step}
 use Rattle.plan.specs.Plan.{planSheets}
 use Rattle.plan.specs.Reading.{readOut}
-use Rattle.promises.specs.Told.{Only, Unwritten}
+use Rattle.promises.specs.Refusals.{recordChecks}
+use Rattle.promises.specs.Told.{Only, Unwritten, Unmoved}
+use Rattle.promises.proofs.Refusals.{foundAt, record-is}
 
 -- a refusal is known by its number and place
 refusal-only : {X : Type 0} (r s : Refusal) → _≡_ {A = Told X} (refusal r) (refusal s) → r ≡ s
@@ -115,3 +118,14 @@ unwritten = record {
   plan = λ N T c table bound lent n p e. kept _ _ _ n p e;
   read-back = λ N T errors thicknesses m out n p e. kept _ _ _ n p e;
 }
+
+-- a refusal moves nothing
+stays : (st : State) (at : ℕ) (t : Told Found) (number place : ℕ) → moved st at t .told ≡ refused number place
+    → (moved st at t .next ≡ at) × (moved st at t .state ≡ st)
+stays st at (done f) n p e = absurd (let z : _≡_ {A = ℕ} 0 1 = cc in omega arith)
+stays st at (refused number place) n p e = (refl, refl)
+
+pub unmoved : Unmoved
+unmoved s st at n p =
+    subst (λ (m : Moved). m .told ≡ refused n p → (m .next ≡ at) × (m .state ≡ st)) (sym (record-is s st at))
+    (stays st at (decided (recordChecks s st at) (foundAt s st at)) n p)

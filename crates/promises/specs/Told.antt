@@ -1,4 +1,5 @@
--- What a call tells says which answer it was, and a refused call has written nothing: both as statements. Assumes nothing.
+-- What a call tells says which answer it was, a refused call has written nothing, and a refused read has moved nothing: as statements.
+-- Assumes nothing.
 use Prim.Native.Nat.{ℕ}
 use mathlib.Core.Path.{_≡_}
 use mathlib.Core.List.{List}
@@ -17,7 +18,8 @@ use Rattle.motor.specs.declared.Lifted.{Lifted}
 use Rattle.table.specs.Tabled.{toldTable}
 use Rattle.table.specs.declared.Tabled.{Tabled}
 use Rattle.table.specs.Calls.{clearAnswer, clearTable, addAnswer, addTable, joinAnswer, joinTable, takeAnswer, takeTable}
-use Rattle.job.specs.Record.{toldStep}
+use Rattle.job.specs.Record.{readRecord, toldStep}
+use Rattle.job.specs.declared.State.{State}
 use Rattle.job.specs.declared.Step.{Step}
 use Rattle.plan.specs.Plan.{Sheets, planAnswer, planSheets}
 use Rattle.plan.specs.Reading.{readAnswer, readOut}
@@ -44,3 +46,9 @@ pub record Unwritten : Type 0 where
       → planAnswer N T c table lent ≡ refused number place → planSheets N T c table bound lent ≡ lent
   pub read-back : (N T : ℕ) (errors thicknesses : List ℕ) (n : ℕ) (out : List ℤ) (number place : ℕ)
       → readAnswer N T errors thicknesses n (length out) ≡ refused number place → readOut N T errors thicknesses n out ≡ out
+
+-- a read that is refused moves neither the place nor the state
+abbrev pub Unmoved : Type 0
+Unmoved =
+    (s : List ℕ) (st : State) (at number place : ℕ) → readRecord s st at .told ≡ refused number place
+    → (readRecord s st at .next ≡ at) × (readRecord s st at .state ≡ st)
