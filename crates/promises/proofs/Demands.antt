@@ -22,7 +22,8 @@ use Rattle.meaning.proofs.Choice.{length-count}
 use Rattle.meaning.proofs.Table.{table-agrees, table-chosen, table-none}
 use Rattle.meaning.proofs.Usable.{same-error}
 use Rattle.promises.specs.Plans.{Answers}
-use Rattle.promises.proofs.Fine.{settings-fine, bounds-fine}
+use Rattle.table.proofs.Bounds.{bounds-fine}
+use Rattle.promises.proofs.Fine.{settings-fine}
 use Rattle.promises.proofs.Plans.{plan-reads}
 use Rattle.promises.proofs.Recounts.{recounts}
 

@@ -32,7 +32,9 @@ use Rattle.recount.specs.Recount.{startOut, layerOut, firstLayerOut, sequenceCh
 use Rattle.recount.proofs.Heights.{difference, rise, start-low, start-high, start-in, end-high, end-low, end-in}
 use Rattle.meaning.proofs.Sequence.{start-datum}
 use Rattle.meaning.proofs.Usable.{layers-usable}
-use Rattle.promises.proofs.Fine.{or-false, settings-fine, bounds-fine}
+use Rattle.lists.proofs.Checks.{or-false}
+use Rattle.table.proofs.Bounds.{bounds-fine}
+use Rattle.promises.proofs.Fine.{settings-fine}
 
 -- a table in bounds passes 1, 2, 3, 7 and 6
 pub table-fine : (N T c : ℕ) (table : List ℕ) → paper.Settings N T → InBounds N T c table → first (tableChecks N T c table) ≡ none
