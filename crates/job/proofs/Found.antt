@@ -27,7 +27,7 @@ Ahead s at next = (at + 4 ≤ next) × (next ≤ length s)
 
 abbrev pub SaysBy : List ℕ → State → ℕ → Moved → Told What → Type 0
 SaysBy s st at m (done (What.settings a)) =
-    Ahead s at (m .next) × (st .begun ≡ false) × (m .state ≡ begin st a) × (first (settingsChecks (a .height) (a .«set»)) ≡ none)
+    Ahead s at (m .next) × (st .begun ≡ false) × (m .state ≡ begin st a) × (first (settingsChecks (a .height) (a .«set»)) ≡ none) × (a ≡ asked s at)
 SaysBy s st at m (done (What.column start count)) =
     Ahead s at (m .next) × (st .begun ≡ true) × (m .state ≡ counted st) × (st .columns < mostColumns)
     × (first (columnChecks (st .asked .height) (words s start count)) ≡ none) × (start + 2 * count ≤ length s)
@@ -54,7 +54,7 @@ module _ (s : List ℕ) (st : State) (at : ℕ) where
         let q = first-none (kindChecks s st at settings) .0 e in
         let w = ltb-false (length s - (at + 4)) (le16 s at) (q .1 .1 .0) in
         let body = settingsChecks (le16 s (at + 4)) (le32 s (at + 4 + 2)) in
-        record { by = ((omega arith, omega arith), not-true (st .begun) (q .0), refl, placed-passed at body (first-none (placed at body) .1 (q .1 .1 .1))) }
+        record { by = ((omega arith, omega arith), not-true (st .begun) (q .0), refl, placed-passed at body (first-none (placed at body) .1 (q .1 .1 .1)), refl) }
     found-says column e =
         let q = first-none (kindChecks s st at column) .0 e in
         let w = ltb-false (length s - (at + 4)) (le16 s at) (q .1 .1 .0) in

@@ -4,11 +4,11 @@ use mathlib.Core.Path.{_≡_, refl, sym, ap, subst, _∙_}
 use mathlib.Core.Bool.{true, false}
 use mathlib.Core.List.{List, [], _∷_, _++_}
 use mathlib.Core.Option.{Option, none, some}
-use Prim.Native.Nat.{ℕ, zero, suc, _+_, _≤_}
+use Prim.Native.Nat.{ℕ, zero, suc, _+_, _≤_, _<_}
 use native.Mathlib.Omega.{arith}
 use borrow.Author.Tests.{ltb-false}
 use lib.Dec.{ltb}
-use lib.ListN.{length}
+use lib.ListN.{length, getD}
 use Rattle.lists.specs.Checks.{first}
 use Rattle.lists.proofs.Checks.{first-none, or-false}
 use Rattle.paper.specs.Table.{cells, mostColumns}
@@ -16,8 +16,8 @@ use Rattle.paper.specs.Sheets.{entries}
 use Rattle.plate.specs.Refusal.{Told, done, refused, Numbered}
 use Rattle.plate.specs.Settings.{settingsChecks}
 use Rattle.column.specs.Order.{columnChecks}
-use Rattle.job.specs.Bytes.{words}
-use Rattle.job.specs.Record.{What, settings, column, ended, remark, begin, counted, Moved, readRecord, startState}
+use Rattle.job.specs.Bytes.{le16, le32, words}
+use Rattle.job.specs.Record.{What, settings, column, ended, remark, asked, begin, counted, Moved, readRecord, startState}
 use Rattle.job.specs.Fold.{foldFrom, foldOf}
 use Rattle.job.specs.File.{Job, sizeChecks, tailChecks, unless, behind, jobBy, jobOver, jobOf}
 use Rattle.job.specs.Load.{InOrder, Ordered}
@@ -44,12 +44,19 @@ behind-done columns (done tail) job e =
     record { tail = tail; is = refl; asked = sym (ap (λ (j : Job). j .asked) f); columns-are = sym (ap (λ (j : Job). j .columns) f) }
 behind-done columns (refused number place) job e = absurd (let z : _≡_ {A = ℕ} 0 1 = cc in omega arith)
 
-module _ (most : ℕ) (s : List ℕ) where
+-- four bytes are a number of 32 bits
+quad-small : (s : List ℕ) → ((i : ℕ) → getD s i 0 < 256) → (at : ℕ) → le32 s at < 4_294_967_296
+unfolding le32 le16
+quad-small s byte at = omega (arith, byte at, byte (at + 1), byte (at + 2), byte (at + 2 + 1))
+
+module _ (most : ℕ) (s : List ℕ) (byte : (i : ℕ) → getD s i 0 < 256) where
   -- settings in order, and a table and a sheet that are not too large
   record Asks (a : Asked) : Type 0 where
     fine : first (settingsChecks (a .height) (a .«set»)) ≡ none
     few-cells : cells (a .height) (a .«set») ≤ most
     few-entries : entries (a .height) (a .«set») ≤ most
+    bits : a .«set» < 4_294_967_296
+    low-bound : a .bound < 4_294_967_296
 
   -- what is known of the state on the way
   record Under (st : State) : Type 0 where
@@ -64,12 +71,18 @@ module _ (most : ℕ) (s : List ℕ) where
     few : st .columns + length (job .columns) ≤ mostColumns
     same : st .begun ≡ true → job .asked ≡ st .asked
 
-  small : (at : ℕ) (a : Asked) → first (settingsChecks (a .height) (a .«set»)) ≡ none → first (sizeChecks most at a) ≡ none → Asks a
+  small : (at : ℕ) (a : Asked) → first (settingsChecks (a .height) (a .«set»)) ≡ none → a ≡ asked s at → first (sizeChecks most at a) ≡ none → Asks a
   unfolding sizeChecks
-  small at a fine e =
+  small at a fine is e =
       let q = first-none (sizeChecks most at a) .0 e in
       let p = or-false (ltb most (cells (a .height) (a .«set»))) (ltb most (entries (a .height) (a .«set»))) (q .0) in
-      record { fine = fine; few-cells = ltb-false _ _ (p .0); few-entries = ltb-false _ _ (p .1) }
+      record {
+        fine = fine;
+        few-cells = ltb-false _ _ (p .0);
+        few-entries = ltb-false _ _ (p .1);
+        bits = rw is (quad-small s byte (at + 4 + 2));
+        low-bound = rw is (quad-small s byte (at + 4 + 6));
+      }
 
   -- one record, where what is read after it is known to hold
   module _ (st : State) (at : ℕ) (u : Under st) (m : Moved) (rest : State → ℕ → Told Job)
@@ -78,7 +91,7 @@ module _ (most : ℕ) (s : List ℕ) where
     one (refused number place) p job e = absurd (let z : _≡_ {A = ℕ} 0 1 = cc in omega arith)
     one (done (settings a)) p job e =
         let q = unless-done (first (sizeChecks most at a)) (rest (m .state) (m .next)) job e in
-        let k = small at a (p .3) (q .0) in
+        let k = small at a (p .3) (p .4) (q .0) in
         let n : Under (begin st a) = record { settled = λ _. k; unended = u .unended; few = u .few } in
         let h = subst (λ (x : State). Holds x job) (p .2) (later (m .state) (m .next) (subst Under (sym (p .2)) n) job (q .1)) in
         record { asks = h .asks; order = h .order; few = h .few; same = λ b. absurd (let c = p .1 in let z : _≡_ {A = ℕ} 0 1 = cc in omega arith) }
@@ -120,4 +133,12 @@ module _ (most : ℕ) (s : List ℕ) where
   ordered job e =
       let u : Under startState = record { settled = λ b. absurd (let z : _≡_ {A = ℕ} 0 1 = cc in omega arith); unended = refl; few = omega arith } in
       let h = all (suc (length s)) startState 0 u job e in
-      record { fine = h .asks .fine; few-cells = h .asks .few-cells; few-entries = h .asks .few-entries; order = h .order; few = omega (arith, h .few) }
+      record {
+        fine = h .asks .fine;
+        few-cells = h .asks .few-cells;
+        few-entries = h .asks .few-entries;
+        bits = h .asks .bits;
+        low-bound = h .asks .low-bound;
+        order = h .order;
+        few = omega (arith, h .few);
+      }

@@ -1,6 +1,6 @@
 -- Reading a job file into a lent table: the file is judged whole, by its own order of refusals, and only then written; 3 where the table
 -- is too short. Assumes nothing.
-use Prim.Native.Nat.{ℕ, _+_, _*_, _≤_}
+use Prim.Native.Nat.{ℕ, _+_, _*_, _≤_, _<_}
 use mathlib.Core.Path.{_≡_}
 use mathlib.Core.List.{List, [], _∷_}
 use mathlib.Core.Option.{none}
@@ -96,6 +96,8 @@ pub record Ordered (most : ℕ) (job : Job) : Type 0 where
   pub fine : first (settingsChecks (job .asked .height) (job .asked .«set»)) ≡ none
   pub few-cells : cells (job .asked .height) (job .asked .«set») ≤ most
   pub few-entries : entries (job .asked .height) (job .asked .«set») ≤ most
+  pub bits : job .asked .«set» < 4_294_967_296
+  pub low-bound : job .asked .bound < 4_294_967_296
   pub order : InOrder (job .asked .height) (job .columns)
   pub few : length (job .columns) ≤ mostColumns
 
