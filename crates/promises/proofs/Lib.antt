@@ -5,4 +5,5 @@ pub mod Plans
 pub mod Recounts
 pub mod Refusals
 pub mod Told
+pub mod Files
 pub mod Demands
