@@ -4,12 +4,12 @@
 -- columns. Assumes nothing.
 use mathlib.Core.Path.{_≡_, refl, sym, ap, subst, _∙_}
 use mathlib.Core.Logic.{_⊎_, inl, inr, _↔_}
-use mathlib.Core.Bool.{Bool, true, false, not, cond}
+use mathlib.Core.Bool.{Bool, true, false, cond}
 use mathlib.Core.List.{List, [], _∷_, append-nil}
 use mathlib.Core.Option.{Option, none, some}
 use Prim.Native.Nat.{ℕ, zero, suc, pred, _+_, _-_, _≤_, _<_}
 use native.Mathlib.Omega.{arith}
-use borrow.Author.Tests.{le-ltb, ltb-false, eqb-true}
+use borrow.Author.Tests.{le-ltb, ltb-false, eqb-true, not-false}
 use lib.Dec.{ltb, eqb}
 use lib.ListN.{length, getD, length-append}
 use Rattle.lists.specs.Checks.{first}
@@ -33,14 +33,11 @@ use Rattle.job.proofs.Found.{SaysBy, read-says, read-ahead}
 use Rattle.job.proofs.Folding.{behind-none, Left, all-left, decides, onward}
 use Rattle.job.proofs.Ordering.{ordered}
 use Rattle.promises.specs.Runs.{Columns}
-use Rattle.promises.specs.Files.{Passes, StopsBy, Stops, Reached, start, further, columnsTo, Ends, FileRead}
+use Rattle.promises.specs.Files.{Passes, StopsBy, Stops, Reached, start, further, columnsTo, faultPlace, Ends, FileRead}
 use Rattle.promises.proofs.Fine.{settings-passed, column-passed}
+use Rattle.promises.proofs.Places.{at-place, record-place}
 
 -- ---- one record
-
-not-not : (b : Bool) → not b ≡ false → b ≡ true
-not-not true e = refl
-not-not false e = absurd (let z : _≡_ {A = ℕ} 0 1 = cc in omega arith)
 
 module _ (s : List ℕ) (st : State) (at : ℕ) where
   -- an end record has the number of columns, and ends in the input
@@ -50,7 +47,7 @@ module _ (s : List ℕ) (st : State) (at : ℕ) where
   ending-says room ending columns e w =
       let q = first-none (kindChecks s st at ending) .0 e in
       let l = ltb-false (length s - (at + 4)) (le16 s at) (q .1 .1 .0) in
-      let c = eqb-true (le32 s (at + 4)) (st .columns) (not-not (eqb (le32 s (at + 4)) (st .columns)) (q .1 .1 .1 .0)) in
+      let c = eqb-true (le32 s (at + 4)) (st .columns) (not-false (eqb (le32 s (at + 4)) (st .columns)) (q .1 .1 .1 .0)) in
       (cc, omega arith)
   ending-says room Kind.settings columns e w = absurd (let z : _≡_ {A = ℕ} 0 1 = cc in omega arith)
   ending-says room Kind.column columns e w = absurd (let z : _≡_ {A = ℕ} 0 1 = cc in omega arith)
@@ -103,6 +100,24 @@ module _ (most : ℕ) (s : List ℕ) where
       ap (λ (o : Option Numbered). unless o (done (record { asked = m .state .asked; columns = [] }))) p
   stops-file at m (done remark) number place p rest = absurd p
   stops-file at m (refused n q) number place p rest = λ i. refused (p .0 i) (p .1 i)
+
+  -- 'each place is the record's first byte; for bytes after the end record, the first of them'
+  pub fault-place : (st : State) (at number place : ℕ) → Stops most s st at number place → place ≡ faultPlace at (readRecord s st at) (readRecord s st at .told)
+  unfolding sizeChecks tailChecks
+  fault-place st at number place = go (readRecord s st at .told) refl
+    where
+      m : Moved
+      m = readRecord s st at
+
+      r : Numbered
+      r = record { number = number; place = place }
+
+      go : (t : Told What) → m .told ≡ t → StopsBy most s at m t number place → place ≡ faultPlace at m t
+      go (done (settings a)) e p = at-place at (sizeChecks most at a) r (refl, tt) p
+      go (done (column from count)) e p = absurd p
+      go (done (ended columns)) e p = at-place (m .next) (tailChecks s (m .next)) r (refl, tt) p
+      go (done remark) e p = absurd p
+      go (refused n q) e p = sym (p .1) ∙ record-place s st at n q e
 
   -- a record is at fault, or the end with nothing after it
   abbrev Fault : ℕ → Moved → Told What → Type 0

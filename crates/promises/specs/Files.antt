@@ -37,6 +37,14 @@ StopsBy most s at m (refused n p) number place = (n ≡ number) × (p ≡ place)
 abbrev pub Stops : ℕ → List ℕ → State → ℕ → ℕ → ℕ → Type 0
 Stops most s st at number place = StopsBy most s at (readRecord s st at) (readRecord s st at .told) number place
 
+-- the place of that fault: the record's first byte, and for bytes after the end the first of them
+abbrev pub faultPlace : ℕ → Moved → Told What → ℕ
+faultPlace at m (done (settings a)) = at
+faultPlace at m (done (column start count)) = at
+faultPlace at m (done (ended columns)) = m .next
+faultPlace at m (done remark) = at
+faultPlace at m (refused number place) = at
+
 -- the file is read in this state to this place: no record before it was at fault, and none was the end
 pub data Reached (most : ℕ) (s : List ℕ) : State → ℕ → Type 0 where
   start : Reached most s startState 0
