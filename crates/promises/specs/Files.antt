@@ -56,7 +56,7 @@ abbrev pub columnsTo : {most : ℕ} {s : List ℕ} {st : State} {at : ℕ} → R
 columnsTo start = []
 columnsTo {s = s} (further {st} {at} r p) = columnsTo r ++ columnIn s (readRecord s st at .told)
 
--- the record there is the end, with the number of the job's columns, and nothing stands after it
+-- the record there is the end, with the number of the job's columns; nothing stands after it, and the job asks for what was read
 pub record Ends (s : List ℕ) (st : State) (at : ℕ) (job : Job) : Type 0 where
   pub told : readRecord s st at .told ≡ done (ended (length (job .columns)))
   pub last : readRecord s st at .next ≡ length s
