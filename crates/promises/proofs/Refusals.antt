@@ -52,7 +52,7 @@ moved-told : (st : State) (at : ℕ) (o : Option Numbered) (f : Found) → moved
 moved-told st at none f = refl
 moved-told st at (some r) f = refl
 
-record-told : (s : List ℕ) (st : State) (at : ℕ) → readRecord s st at .told ≡ decided (recordChecks s st at) (foundAt s st at .what)
+pub record-told : (s : List ℕ) (st : State) (at : ℕ) → readRecord s st at .told ≡ decided (recordChecks s st at) (foundAt s st at .what)
 record-told s st at = ap (λ (m : Moved). m .told) (record-is s st at) ∙ moved-told st at (first (recordChecks s st at)) (foundAt s st at)
 
 -- ---- the sentence

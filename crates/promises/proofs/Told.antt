@@ -25,10 +25,13 @@ use Rattle.table.specs.declared.Tabled.{Tabled}
 use Rattle.table.specs.declared.Tabled.the-variants as tabled
 use Rattle.table.specs.Calls.{clearTable, addTable, joinTable, takeTable}
 use Rattle.job.specs.Record.{What, Found, Moved, moved, toldRead, toldStep}
+use Rattle.job.specs.Load.{toldLoad, loadTable}
 use Rattle.job.specs.declared.Read.{Read}
 use Rattle.job.specs.declared.Read.the-variants as read
 use Rattle.job.specs.declared.State.{State}
 use Rattle.job.specs.declared.Step.{Step}
+use Rattle.job.specs.declared.Loaded.{Loaded}
+use Rattle.job.specs.declared.Loaded.the-variants as loaded
 use Rattle.plan.specs.Plan.{planSheets}
 use Rattle.plan.specs.Reading.{readOut}
 use Rattle.promises.specs.Refusals.{recordChecks}
@@ -93,6 +96,12 @@ step-told a b e =
     let r = sym (read-again (a .read)) ∙ ap (λ (m : Moved). readOf (m .told)) e ∙ read-again (b .read) in
     λ i. record { read = r i; cursor = record { at = e i .next }; state = e i .state }
 
+file-told : (a b : Loaded) → toldLoad a ≡ toldLoad b → a ≡ b
+file-told (loaded.Done x) (loaded.Done y) e = let q : x ≡ y = cc in ap loaded.Done q
+file-told (loaded.Done x) (loaded.Refused r) e = absurd (let z : _≡_ {A = ℕ} 0 1 = cc in omega arith)
+file-told (loaded.Refused r) (loaded.Done y) e = absurd (let z : _≡_ {A = ℕ} 0 1 = cc in omega arith)
+file-told (loaded.Refused r) (loaded.Refused s) e = ap loaded.Refused (refusal-only r s e)
+
 pub only : Only
 only = record {
   number = number-told;
@@ -102,6 +111,7 @@ only = record {
   checks = checks-told;
   settings = settings-told;
   step = step-told;
+  file = file-told;
 }
 
 -- a refusal keeps what was held
@@ -109,7 +119,7 @@ kept : {X B : Type 0} (t : Told X) (written held : B) (number place : ℕ) → t
 kept t new old n p e = ap (λ (t : Told _). after t new old) e
 
 pub unwritten : Unwritten
-unfolding clearTable addTable joinTable takeTable planSheets readOut
+unfolding clearTable addTable joinTable takeTable planSheets readOut loadTable
 unwritten = record {
   clear = λ N T table n p e. kept _ _ _ n p e;
   add = λ N T c table bs n p e. kept _ _ _ n p e;
@@ -117,6 +127,7 @@ unwritten = record {
   take = λ N T c table N′ T′ c′ other n p e. kept _ _ _ n p e;
   plan = λ N T c table bound lent n p e. kept _ _ _ n p e;
   read-back = λ N T errors thicknesses m out n p e. kept _ _ _ n p e;
+  read-file = λ lent file n p e. kept _ _ _ n p e;
 }
 
 -- a refusal moves nothing
