@@ -27,7 +27,7 @@ use Rattle.promises.proofs.Fine.{settings-fine}
 use Rattle.promises.proofs.Plans.{plan-reads}
 use Rattle.promises.proofs.Recounts.{recounts}
 
-take-front : (xs ys : List ℤ) → take (length xs) (xs ++ ys) ≡ xs
+pub take-front : (xs ys : List ℤ) → take (length xs) (xs ++ ys) ≡ xs
 take-front [] ys = refl
 take-front (x ∷ xs) ys = ap (λ (l : List ℤ). x ∷ l) (take-front xs ys)
 

@@ -15,6 +15,10 @@ unfolding put
 put-append [] ys k = refl
 put-append (x ∷ xs) ys k = put-append xs ys (putByte x k)
 
+-- one text, and then another
+pub onto : (xs ys : List ℕ) (k l m : Sink) → l ≡ put xs k → m ≡ put ys l → m ≡ put (xs ++ ys) k
+onto xs ys k l m e f = f ∙ ap (put ys) e ∙ sym (put-append xs ys k)
+
 -- one byte, with room for it and without
 pub put-in : (b at : ℕ) (bytes : List ℕ) → at < length bytes → sink (at + 1) (set bytes at b) ≡ put (b ∷ []) (sink at bytes)
 unfolding put putByte

@@ -1,0 +1,5 @@
+pub mod Boundaries
+pub mod Read
+pub mod Counts
+pub mod Planned
+pub mod Printed

@@ -1,0 +1,43 @@
+-- `plan_text` meets its contract: too many bytes are refused before all else, and what is worked out for a file is what document 01 says.
+-- Assumes nothing.
+use borrow.Author.Needs.{needs}
+use borrow.Author.Tests.{lt-ltb, le-ltb}
+use native.Mathlib.Omega.{arith}
+use mathlib.Core.Path.{_≡_, ap, _∙_}
+use mathlib.Core.List.{List}
+use Prim.Native.Nat.{ℕ, min, _≤_, _<_}
+use lib.ListN.{length, getD}
+use denote.Ref.{now}
+use Rattle.text.specs.Sink.{Sink, sink, put, laidOver}
+use Rattle.text.proofs.Laws.{put-start}
+use Rattle.job.specs.File.{jobOf}
+use Rattle.report.specs.Lines.{most, refusedLine, jobText, planText}
+use Rattle.report.specs.Work.{blankTable, fileText}
+use Rattle.report.proofs.Printed.{printed}
+use Rattle.report.proofs.plan_text.Statement.{statement}
+use Rattle.report.proofs.plan_text.Tie as tie
+
+-- a text that is put from the beginning
+from-start : (t text old new : List ℕ) (r : ℕ) → sink r new ≡ put t (sink 0 old) → t ≡ text → (r ≡ min (length text) (length old)) × (new ≡ laidOver text old)
+from-start t text old new r e f =
+    let g = e ∙ ap (λ (x : List ℕ). put x (sink 0 old)) f ∙ put-start text old in
+    (ap (λ (k : Sink). k .at) g, ap (λ (k : Sink). k .bytes) g)
+
+long-is : (s : List ℕ) → most < length s → refusedLine 17 0 ≡ planText s
+unfolding planText
+long-is s l = simp (lt-ltb most (length s) l)
+
+short-is : (s : List ℕ) → ((i : ℕ) → getD s i 0 < 256) → length s ≤ most → fileText (jobOf most s) blankTable ≡ planText s
+unfolding planText
+short-is s byte l = simp (le-ltb most (length s) l) (printed s byte)
+
+returns : tie.Need-returns
+returns c = from-start _ _ _ _ _ (c .before .before .put-refused .ensures) (long-is _ (c .before .before .before .before .if1 .taken))
+
+returns-2 : tie.Need-returns-2
+returns-2 c =
+    from-start _ _ _ _ _ (c .before .before .put-job .ensures)
+    (short-is (now (c .before .before .before .before .before .before .before .args .input)) (λ i. omega (arith, c .before .before .before .before .before .before .shared-slice-known .given i)) (c .before .before .before .before .if1 .left))
+
+pub plan-text-spec : {M : Type 1} → statement M
+plan-text-spec = tie.close (tie.spec (λ c κs. search needs) (λ c. search needs) returns (λ c κs. search needs) (λ c. search needs) returns-2)
