@@ -3,3 +3,4 @@ pub mod Read
 pub mod Counts
 pub mod Planned
 pub mod Printed
+pub mod Lengths

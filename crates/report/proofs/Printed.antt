@@ -60,7 +60,7 @@ line-is p bound n low answer old out (inr a) =
 
 -- ---- sheets that fit have few counts
 
-few-counts : (N T : ℕ) → paper.Settings N T → entries N T ≤ most → M N T ≤ 63
+pub few-counts : (N T : ℕ) → paper.Settings N T → entries N T ≤ most → M N T ≤ 63
 few-counts N T s e = go (ltb 63 (M N T)) refl
   where
     k : Sound (settingsOf N T)

@@ -225,9 +225,11 @@ fn put_job(input: &[u8], out: &mut [u8]) -> usize
     put_file(input, out, &mut table)
 }
 
-// What the planning program prints for these bytes, laid into `out` as far as it goes; answers how many bytes were laid.
+// What the planning program prints for these bytes, laid into `out` as far as it goes; answers how many bytes were laid. No text is longer
+// than 131,072 bytes.
 pub fn plan_text(input: &[u8], out: &mut [u8]) -> usize
     ensures { λ r. ⌜ (r ≡ min (length (planText (now (input .entry)))) (length (now (out .entry)))) × (now (out .exit) ≡ laidOver (planText (now (input .entry))) (now (out .entry))) ⌝ }
+    ensures { λ r. ⌜ (131072 ≤ length (now (out .entry)) → take r (now (out .exit)) ≡ planText (now (input .entry))) ⌝ }
 {
     if 4096 < input.len() {
         return put_refused(out, 17, 0);

@@ -5,7 +5,7 @@ use mathlib.Core.List.{List, [], _∷_, _++_, append-nil, append-assoc}
 use Prim.Native.Nat.{ℕ, zero, suc, _+_, _≤_, _<_, min}
 use native.Mathlib.Omega.{arith}
 use borrow.Author.Tests.{lt-ltb, le-ltb}
-use lib.ListN.{length, set, drop, getD, length-append, drop-of-length-le}
+use lib.ListN.{length, set, take, drop, getD, length-append, drop-of-length-le}
 use native.Mathlib.Numerals.{add-one}
 use lib.Seq.{drop-cons}
 use Rattle.text.specs.Sink.{Sink, sink, putByte, put, laidOver}
@@ -60,3 +60,16 @@ put-after (b ∷ text) pre (x ∷ old) =
 
 pub put-start : (text old : List ℕ) → put text (sink 0 old) ≡ sink (min (length text) (length old)) (laidOver text old)
 put-start text old = put-after text [] old ∙ ap (λ (n : ℕ). sink n (laidOver text old)) (omega arith)
+
+pub length-laid : (text old : List ℕ) → length (laidOver text old) ≡ length old
+unfolding laidOver
+length-laid [] old = refl
+length-laid (b ∷ text) [] = refl
+length-laid (b ∷ text) (x ∷ old) = ap suc (length-laid text old)
+
+-- with room for all of it, all of it is there
+pub laid-whole : (text old : List ℕ) → length text ≤ length old → take (length text) (laidOver text old) ≡ text
+unfolding laidOver
+laid-whole [] old l = refl
+laid-whole (b ∷ text) [] l = absurd (omega arith)
+laid-whole (b ∷ text) (x ∷ old) l = ap (λ (t : List ℕ). b ∷ t) (laid-whole text old (omega arith))
