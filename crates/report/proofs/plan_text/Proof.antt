@@ -24,11 +24,13 @@ from-start : (s t old new : List ℕ) (r : ℕ) → ((i : ℕ) → getD s i 0 < 
 from-start s t old new r byte e f =
     let g = e ∙ ap (λ (x : List ℕ). put x (sink 0 old)) f ∙ put-start (planText s) old in
     let count = ap (λ (k : Sink). k .at) g in
-    let laid = ap (λ (k : Sink). k .bytes) g in
-    ((count, laid), λ room.
-        let fits = text-fits s byte in
-        let all : r ≡ length (planText s) = omega arith in
-        ap₂ take all laid ∙ laid-whole (planText s) old (omega arith))
+    let laid = ap (λ (k : Sink). k .bytes) g in (
+      (count, laid),
+      λ room.
+          let fits = text-fits s byte in
+          let all : r ≡ length (planText s) = omega arith in
+          ap₂ take all laid ∙ laid-whole (planText s) old (omega arith),
+    )
 
 long-is : (s : List ℕ) → most < length s → refusedLine 17 0 ≡ planText s
 unfolding planText
