@@ -6,7 +6,7 @@ use mathlib.Core.List.{List}
 use mathlib.Core.Option.{Option, none, some}
 use Prim.Native.Nat.{ℕ, _+_, _-_, _*_, _/_, _≤_, _<_}
 use native.Mathlib.Omega.{arith}
-use borrow.Author.Tests.{ltb-false, leb-false, eqb-true}
+use borrow.Author.Tests.{ltb-false, leb-false, eqb-true, not-true, not-false}
 use lib.Dec.{ltb, eqb}
 use lib.ListN.{length}
 use Rattle.lists.specs.Checks.{first}
@@ -39,14 +39,6 @@ SaysBy s st at m (refused number place) = Unit {0}
 pub record Says (s : List ℕ) (st : State) (at : ℕ) (m : Moved) : Type 0 where
   pub by : SaysBy s st at m (m .told)
 
-not-false : (b : Bool) → not b ≡ false → b ≡ true
-not-false true e = refl
-not-false false e = absurd (let z : _≡_ {A = ℕ} 0 1 = cc in omega arith)
-
-not-true : (b : Bool) → not (not b) ≡ false → b ≡ false
-not-true true e = absurd (let z : _≡_ {A = ℕ} 0 1 = cc in omega arith)
-not-true false e = refl
-
 module _ (s : List ℕ) (st : State) (at : ℕ) where
   module _ (room : at + 4 ≤ length s) where
     found-says : (kind : Kind) → first (kindChecks s st at kind) ≡ none → Says s st at (moved st at (done (found s st at kind)))
@@ -55,7 +47,7 @@ module _ (s : List ℕ) (st : State) (at : ℕ) where
         let q = first-none (kindChecks s st at settings) .0 e in
         let w = ltb-false (length s - (at + 4)) (le16 s at) (q .1 .1 .0) in
         let body = settingsChecks (le16 s (at + 4)) (le32 s (at + 4 + 2)) in
-        record { by = ((omega arith, omega arith), not-true (st .begun) (q .0), refl, placed-passed at body (first-none (placed at body) .1 (q .1 .1 .1)), refl) }
+        record { by = ((omega arith, omega arith), not-true (st .begun) (not-false (not (st .begun)) (q .0)), refl, placed-passed at body (first-none (placed at body) .1 (q .1 .1 .1)), refl) }
     found-says column e =
         let q = first-none (kindChecks s st at column) .0 e in
         let w = ltb-false (length s - (at + 4)) (le16 s at) (q .1 .1 .0) in
