@@ -13,14 +13,13 @@ use borrow.Author.Tests.{le-ltb, ltb-false}
 use lib.ListN.{length, getD, length-append}
 use Rattle.lists.specs.Checks.{first}
 use Rattle.lists.proofs.Checks.{first-none}
-use Rattle.lists.proofs.Rewrite.{rewritten-past}
-use Rattle.paper.specs.Layer.{shares, ofColumns}
-use Rattle.paper.specs.Table.{cells, cellOf, Table}
+use Rattle.paper.specs.Layer.{ofColumns}
+use Rattle.paper.specs.Table.{cells, Table}
 use Rattle.plate.specs.Refusal.{Told, done, refused, Numbered}
 use Rattle.plate.proofs.Decided.{after-done}
 use Rattle.table.specs.Calls.{short}
 use Rattle.table.specs.Plates.{tableOf}
-use Rattle.table.proofs.Plates.{length-table, table-is}
+use Rattle.table.proofs.Plates.{length-table, table-past, table-is}
 use Rattle.job.specs.Record.{settings, column, remark, What, ended, Moved, readRecord, startState}
 use Rattle.job.specs.Fold.{foldFrom}
 use Rattle.job.specs.File.{Job, sizeChecks, tailChecks, unless, behind, jobBy, jobOver, jobOf}
@@ -208,10 +207,6 @@ module _ (most : ℕ) (s : List ℕ) where
 columns-passed : (N : ℕ) (columns : List (List ℕ)) → InOrder N columns → Columns N columns
 columns-passed N [] o = tt
 columns-passed N (bs ∷ columns) o = (column-passed N bs (o .0), columns-passed N columns (o .1))
-
-table-past : (N T : ℕ) (columns : List (List ℕ)) (old : List ℕ) (i : ℕ) → cells N T ≤ i → getD (tableOf N T columns old) i 0 ≡ getD old i 0
-unfolding tableOf
-table-past N T columns old i l = rewritten-past (λ i x. cellOf T (shares columns) i) (cells N T) old i 0 l
 
 module _ (job : Job) (lent : List ℕ) (room : cells (job .asked .height) (job .asked .«set») ≤ length lent) where
   load-done : loadAnswer lent (done job) ≡ done (loadOf job)
