@@ -154,7 +154,7 @@ fn reached(list: &[u8], start: usize, i: usize) -> usize {
     start
 }
 
-pub fn run(list: &[u8]) {
+pub(crate) fn run(list: &[u8]) {
     let mut start = 0;
     let mut i = 0;
     while i < list.len() {

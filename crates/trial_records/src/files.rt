@@ -75,7 +75,7 @@ fn show_load(load: Load) {
 
 // By the most entries that a table or a sheet may have, and the length of the part that is lent. A file that was read shows the whole buffer,
 // so that what stands past the table, and past the part, is seen.
-pub fn file(numbers: [u64; 8], input: &[u8]) {
+pub(crate) fn file(numbers: [u64; 8], input: &[u8]) {
     let mut table = PATTERN;
     let answer = read_job(
         input,

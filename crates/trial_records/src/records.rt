@@ -73,7 +73,7 @@ fn state_of(numbers: [u64; 8]) -> State {
 }
 
 // So many records, by the numbers of a state and of a place.
-pub fn records(numbers: [u64; 8], input: &[u8]) {
+pub(crate) fn records(numbers: [u64; 8], input: &[u8]) {
     let mut state = state_of(numbers);
     let mut cursor = Cursor {
         at: numbers[6] as usize,

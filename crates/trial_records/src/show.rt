@@ -3,26 +3,26 @@ use job::Asked;
 use libc::STDOUT_FILENO;
 use plate::refusal::Reason;
 
-pub fn text(words: &[u8]) {
+pub(crate) fn text(words: &[u8]) {
     io::write_all(STDOUT_FILENO, words);
 }
 
 // A number with a space before it.
-pub fn next(x: u64) {
+pub(crate) fn next(x: u64) {
     text(b" ");
     io::print_decimal(STDOUT_FILENO, x);
 }
 
-pub fn next32(x: u32) {
+pub(crate) fn next32(x: u32) {
     next(x as u64);
 }
 
-pub fn next_size(x: usize) {
+pub(crate) fn next_size(x: usize) {
     next(x as u64);
 }
 
 // A flag as 1 or 0.
-pub fn next_flag(flag: bool) {
+pub(crate) fn next_flag(flag: bool) {
     if flag {
         next(1);
     } else {
@@ -30,7 +30,7 @@ pub fn next_flag(flag: bool) {
     }
 }
 
-pub fn refused(reason: Reason, place: u64) {
+pub(crate) fn refused(reason: Reason, place: u64) {
     text(b" refused");
     next32(reason.number());
     text(b" at");
@@ -38,7 +38,7 @@ pub fn refused(reason: Reason, place: u64) {
 }
 
 // What settings ask for.
-pub fn asked(asked: Asked) {
+pub(crate) fn asked(asked: Asked) {
     text(b" height");
     next32(asked.height);
     text(b", set");
@@ -48,7 +48,7 @@ pub fn asked(asked: Asked) {
 }
 
 // Whether memory that is not to be written is as it was.
-pub fn kept(same: bool) {
+pub(crate) fn kept(same: bool) {
     if same {
         text(b"; kept");
     } else {
