@@ -5,7 +5,7 @@ use crate::files;
 use crate::records;
 use crate::show;
 
-// A part of a line.
+// A part of a line; the whole of it where there is no such part.
 fn part(line: &[u8], from: usize, to: usize) -> &[u8] {
     if from <= to {
         if to <= line.len() {
