@@ -1,0 +1,153 @@
+// The calls on tables: clear, add, join, take off. The plate is that of document 01: height 4, thicknesses 2 and 3, so 24 cells.
+use crate::lend::front32;
+use crate::lend::part16;
+use crate::lend::part32;
+use crate::lend::same32;
+use crate::lend::show32;
+use crate::show;
+use crate::spoil::Pair;
+use table::Tabled;
+use table::Tally;
+use table::add_column;
+use table::clear_table;
+use table::join_tables;
+use table::take_off;
+
+// The end of a line: the answer of a call on a table, the cells after it, and whether memory that it was not to write is as before; so far
+// of other memory as `rest` says.
+fn tabled(answer: Tabled, table: &[u32; 96], before: &[u32; 96], rest: bool) {
+    match answer {
+        Tabled::Refused(refusal) => {
+            show::refusal(refusal);
+            show::kept(same32(table, before, 0) && rest);
+        }
+        Tabled::Done(tally) => {
+            show::text(b" done");
+            show::next32(tally.columns);
+            show::text(b" cells");
+            show32(table, 24);
+            show::kept(same32(table, before, 24) && rest);
+        }
+    }
+}
+
+// A buffer with a table of no columns at its front.
+fn cleared() -> [u32; 96] {
+    let mut table = [77u32; 96];
+    clear_table(&mut table, 4, 6);
+    table
+}
+
+// A table with one column more.
+fn added(mut table: [u32; 96], columns: u32, column: &[u16]) -> [u32; 96] {
+    add_column(&mut table, 4, 6, Tally { columns }, column);
+    table
+}
+
+// The table of one column.
+pub fn table_of(column: &[u16]) -> [u32; 96] {
+    added(cleared(), 0, column)
+}
+
+// The tables of document 01's columns A and B, and of both.
+pub fn table_a() -> [u32; 96] {
+    table_of(&[1, 4])
+}
+
+pub fn table_b() -> [u32; 96] {
+    table_of(&[0, 3])
+}
+
+pub fn table_ab() -> [u32; 96] {
+    added(table_a(), 1, &[0, 3])
+}
+
+// The table of both, with a cell out of bounds by spoiler k.
+pub fn spoiled_ab(p: Pair, k: u32) -> [u32; 96] {
+    let mut table = table_ab();
+    table[13] = p.pick(k, 4000000000, table[13]);
+    table
+}
+
+// Clear: 1, 2, 3.
+pub fn clear_trial(p: Pair) {
+    let mut table = [77u32; 96];
+    let before = table;
+    let lent = front32(&mut table, p.size(3, 24));
+    let answer = clear_table(lent, p.pick(1, 0, 4), p.pick(2, 0, 6));
+    tabled(answer, &table, &before, true);
+}
+
+// Add: 1, 2, 3, 7, 4, 5, 6.
+pub fn add_trial(p: Pair) {
+    let mut table = spoiled_ab(p, 7);
+    let before = table;
+    let column = [p.pick16(6, 3, 0), p.pick16(6, 0, 3), 4];
+    let tally = Tally {
+        columns: p.pick(4, 1000000, 2),
+    };
+    let lent = front32(&mut table, p.size(3, 24));
+    let boundaries = part16(&column, p.pick_size(5, 3, 2));
+    let answer = add_column(lent, p.pick(1, 0, 4), p.pick(2, 0, 6), tally, boundaries);
+    tabled(answer, &table, &before, true);
+}
+
+// The table of column B, with a cell out of bounds by spoiler 10, and one that no part of both has by spoiler 12.
+fn second_table(p: Pair) -> [u32; 96] {
+    let mut table = table_b();
+    table[10] = p.pick(10, 4000000000, table[10]);
+    table[19] = p.pick(12, 1, table[19]);
+    table
+}
+
+// A table joined into the first, or taken off.
+fn paired(p: Pair, off: bool, table: &mut [u32], columns: u32, other: &[u32], more: u32) -> Tabled {
+    let height = p.pick(1, 0, 4);
+    let set = p.pick(2, 0, 6);
+    let tally = Tally { columns };
+    let other_height = p.pick(3, 0, 4);
+    let other_set = p.pick(4, 0, p.pick(5, 14, 6));
+    let other_tally = Tally { columns: more };
+    if off {
+        return take_off(
+            table,
+            height,
+            set,
+            tally,
+            other,
+            other_height,
+            other_set,
+            other_tally,
+        );
+    }
+    join_tables(
+        table,
+        height,
+        set,
+        tally,
+        other,
+        other_height,
+        other_set,
+        other_tally,
+    )
+}
+
+// The table of both columns, and that of column B joined into it or taken off it, with the column counts given.
+fn pair_trial(p: Pair, off: bool, columns: u32, more: u32) {
+    let mut table = spoiled_ab(p, 9);
+    let before = table;
+    let other = second_table(p);
+    let lent = front32(&mut table, p.size(6, 24));
+    let answer = paired(p, off, lent, columns, part32(&other, p.size(7, 24)), more);
+    tabled(answer, &table, &before, same32(&other, &second_table(p), 0));
+}
+
+// Join: 1 and 2 of the first, 1 and 2 of the second, 8, 3 of the first, 3 of the second, 7, 6 of the first, 6 of the second.
+pub fn join_trial(p: Pair) {
+    pair_trial(p, false, 2, p.pick(8, 1000001, 1));
+}
+
+// Take off: the same, 9 by the count, 9 by a cell.
+pub fn take_trial(p: Pair) {
+    pair_trial(p, true, 2, p.pick(8, 1000001, p.pick(11, 3, 1)));
+}
