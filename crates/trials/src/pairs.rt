@@ -77,11 +77,7 @@ fn apart(call: Call, p: Pair) -> bool {
 }
 
 fn line(call: Call, first: u32, second: u32) {
-    let p = Pair {
-        first,
-        second,
-        longer: false,
-    };
+    let p = Pair::of(first, second);
     if apart(call, p) {
         return;
     }
@@ -126,6 +122,8 @@ fn good(call: Call, longer: bool) {
             first: 0,
             second: 0,
             longer,
+            columns: 2,
+            more: 1,
         },
     );
 }
@@ -134,6 +132,42 @@ fn tried(call: Call, most: u32) {
     good(call, false);
     good(call, true);
     each(call, most);
+}
+
+// A call with the column counts given.
+fn tally(call: Call, columns: u32, more: u32) {
+    name(call);
+    show::text(b" of");
+    show::next32(columns);
+    show::text(b" and");
+    show::next32(more);
+    show::text(b":");
+    trial(call, Pair::tallied(columns, more));
+}
+
+// Both sides of the limit on columns: adding to a table, handing it over, joining and taking off.
+pub fn tallies() {
+    tally(Call::Add, 999999, 1);
+    tally(Call::Add, 1000000, 1);
+    tally(Call::Add, 1000001, 1);
+    tally(Call::Add, 4294967295, 1);
+    tally(Call::Plan, 1000000, 0);
+    tally(Call::Plan, 1000001, 0);
+    tally(Call::Recount, 1000000, 0);
+    tally(Call::Recount, 1000001, 0);
+    tally(Call::Join, 2, 999998);
+    tally(Call::Join, 999999, 1);
+    tally(Call::Join, 1000000, 1);
+    tally(Call::Join, 2, 999999);
+    tally(Call::Join, 1000001, 1);
+    tally(Call::Join, 4294967295, 4294967295);
+    tally(Call::Take, 1000000, 1);
+    tally(Call::Take, 1000000, 999999);
+    tally(Call::Take, 1000000, 1000000);
+    tally(Call::Take, 1000001, 1);
+    tally(Call::Take, 2, 1000001);
+    tally(Call::Take, 2, 2);
+    tally(Call::Take, 2, 3);
 }
 
 pub fn every_pair() {

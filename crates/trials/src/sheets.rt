@@ -79,7 +79,7 @@ pub fn plan_trial(p: Pair) {
         p.pick(1, 0, 4),
         p.pick(2, 0, 6),
         Tally {
-            columns: p.pick(7, 1000001, 2),
+            columns: p.pick(7, 1000001, p.columns),
         },
         NO_BOUND,
         front64(&mut errors, p.size(4, 45)),

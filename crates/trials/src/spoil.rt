@@ -6,9 +6,34 @@ pub struct Pair {
     pub second: u32,
     // Whether the lent buffers are longer than stated.
     pub longer: bool,
+    // The column counts of the first and the second table.
+    pub columns: u32,
+    pub more: u32,
 }
 
 impl Pair {
+    // Two spoilers, in buffers of the stated sizes, for the tables of both columns and of one.
+    pub fn of(first: u32, second: u32) -> Self {
+        Pair {
+            first,
+            second,
+            longer: false,
+            columns: 2,
+            more: 1,
+        }
+    }
+
+    // Nothing spoiled but the column counts.
+    pub fn tallied(columns: u32, more: u32) -> Self {
+        Pair {
+            first: 0,
+            second: 0,
+            longer: false,
+            columns,
+            more,
+        }
+    }
+
     pub fn has(self, k: u32) -> bool {
         if self.first == k {
             return true;

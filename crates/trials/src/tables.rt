@@ -15,7 +15,7 @@ use table::take_off;
 
 // The end of a line: the answer of a call on a table, the cells after it, and whether memory that it was not to write is as before; so far
 // of other memory as `rest` says.
-fn tabled(answer: Tabled, table: &[u32; 96], before: &[u32; 96], rest: bool) {
+pub fn tabled(answer: Tabled, table: &[u32; 96], before: &[u32; 96], rest: bool) {
     match answer {
         Tabled::Refused(refusal) => {
             show::refusal(refusal);
@@ -84,7 +84,7 @@ pub fn add_trial(p: Pair) {
     let before = table;
     let column = [p.pick16(6, 3, 0), p.pick16(6, 0, 3), 4];
     let tally = Tally {
-        columns: p.pick(4, 1000000, 2),
+        columns: p.pick(4, 1000000, p.columns),
     };
     let lent = front32(&mut table, p.size(3, 24));
     let boundaries = part16(&column, p.pick_size(5, 3, 2));
@@ -101,10 +101,10 @@ fn second_table(p: Pair) -> [u32; 96] {
 }
 
 // A table joined into the first, or taken off.
-fn paired(p: Pair, off: bool, table: &mut [u32], columns: u32, other: &[u32], more: u32) -> Tabled {
+fn paired(p: Pair, off: bool, table: &mut [u32], other: &[u32], more: u32) -> Tabled {
     let height = p.pick(1, 0, 4);
     let set = p.pick(2, 0, 6);
-    let tally = Tally { columns };
+    let tally = Tally { columns: p.columns };
     let other_height = p.pick(3, 0, 4);
     let other_set = p.pick(4, 0, p.pick(5, 14, 6));
     let other_tally = Tally { columns: more };
@@ -132,22 +132,22 @@ fn paired(p: Pair, off: bool, table: &mut [u32], columns: u32, other: &[u32], mo
     )
 }
 
-// The table of both columns, and that of column B joined into it or taken off it, with the column counts given.
-fn pair_trial(p: Pair, off: bool, columns: u32, more: u32) {
+// The table of both columns, and that of column B joined into it or taken off it.
+fn pair_trial(p: Pair, off: bool, more: u32) {
     let mut table = spoiled_ab(p, 9);
     let before = table;
     let other = second_table(p);
     let lent = front32(&mut table, p.size(6, 24));
-    let answer = paired(p, off, lent, columns, part32(&other, p.size(7, 24)), more);
+    let answer = paired(p, off, lent, part32(&other, p.size(7, 24)), more);
     tabled(answer, &table, &before, same32(&other, &second_table(p), 0));
 }
 
 // Join: 1 and 2 of the first, 1 and 2 of the second, 8, 3 of the first, 3 of the second, 7, 6 of the first, 6 of the second.
 pub fn join_trial(p: Pair) {
-    pair_trial(p, false, 2, p.pick(8, 1000001, 1));
+    pair_trial(p, false, p.pick(8, 1000001, p.more));
 }
 
 // Take off: the same, 9 by the count, 9 by a cell.
 pub fn take_trial(p: Pair) {
-    pair_trial(p, true, 2, p.pick(8, 1000001, p.pick(11, 3, 1)));
+    pair_trial(p, true, p.pick(8, 1000001, p.pick(11, 3, p.more)));
 }
