@@ -1,11 +1,11 @@
 // Plates of the greatest height, in buffers for the greatest sizes: both sides of the height's limit, and one plate at full size.
-use crate::lend::part16;
-use crate::recounts::recounted;
-use crate::sheets::NO_BOUND;
-use crate::show;
-use crate::single::BOUNDARIES;
+use crate::limits::BOUNDARIES;
 use crate::worked::Job;
 use crate::worked::count_line;
+use bench::lend::part16;
+use bench::show;
+use bench::small::NO_BOUND;
+use bench::small::answered;
 use plan::plan;
 use table::Tabled;
 use table::Tally;
@@ -124,7 +124,7 @@ fn plan_line(
     let tally = Tally {
         columns: job.columns,
     };
-    recounted(plan(
+    answered(plan(
         table,
         job.height,
         job.set,
@@ -198,15 +198,14 @@ fn full_table() -> [u32; 18368] {
 }
 
 // Some counts of the full plate, which has none of fewer than 16 layers.
+const COUNTS: [u32; 8] = [15, 16, 17, 24, 40, 100, 574, 575];
+
 fn full_counts(job: Job, table: &[u32], errors: &[u64], thicknesses: &[u8]) {
-    count_line(job, table, errors, thicknesses, 15);
-    count_line(job, table, errors, thicknesses, 16);
-    count_line(job, table, errors, thicknesses, 17);
-    count_line(job, table, errors, thicknesses, 24);
-    count_line(job, table, errors, thicknesses, 40);
-    count_line(job, table, errors, thicknesses, 100);
-    count_line(job, table, errors, thicknesses, 574);
-    count_line(job, table, errors, thicknesses, 575);
+    let mut i = 0;
+    while i < 8 {
+        count_line(job, table, errors, thicknesses, COUNTS[i]);
+        i += 1;
+    }
 }
 
 pub fn full() {

@@ -1,22 +1,14 @@
-// Runs the compiled calls of document 01, and prints a line for each case.
+// Runs the compiled calls of document 01 on both sides of its limits, in the traps that it names, on the plate that it works in full, from
+// joined tables, and on one plate at full size.
 mod large;
-mod lend;
-mod pairs;
-mod recounts;
-mod sheets;
-mod show;
-mod single;
-mod spoil;
-mod tables;
+mod limits;
 mod worked;
 
 fn main() {
-    pairs::every_pair();
-    pairs::tallies();
-    recounts::ends();
-    single::motors();
-    single::pictures();
-    single::traps();
+    limits::ends();
+    limits::motors();
+    limits::pictures();
+    limits::traps();
     worked::worked();
     large::heights();
     large::boundaries();

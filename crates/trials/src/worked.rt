@@ -1,15 +1,15 @@
 // The plate that document 01 works in full: each column planned alone, and both planned from joined tables.
-use crate::lend::part_signed;
-use crate::lend::same32;
-use crate::lend::show_heights;
-use crate::lend::show64;
-use crate::recounts::recounted;
-use crate::sheets::NO_BOUND;
-use crate::show;
-use crate::tables::table_a;
-use crate::tables::table_ab;
-use crate::tables::table_b;
-use crate::tables::tabled;
+use bench::lend::part_signed;
+use bench::lend::same32;
+use bench::lend::show_heights;
+use bench::lend::show64;
+use bench::show;
+use bench::small::NO_BOUND;
+use bench::small::answered;
+use bench::small::table_a;
+use bench::small::table_ab;
+use bench::small::table_b;
+use bench::small::tabled;
 use plan::plan;
 use plan::read_back;
 use plate::refusal::Answer;
@@ -44,7 +44,7 @@ pub fn count_line(job: Job, table: &[u32], errors: &[u64], thicknesses: &[u8], n
             let tally = Tally {
                 columns: job.columns,
             };
-            recounted(recount(
+            answered(recount(
                 table,
                 job.height,
                 job.set,
@@ -62,7 +62,7 @@ fn counts(table: &[u32], columns: u32, bound: u32) {
     let mut errors = [7u64; 96];
     let mut thicknesses = [7u8; 96];
     let mut list = [7u64; 96];
-    recounted(plan(
+    answered(plan(
         table,
         4,
         6,
