@@ -9,4 +9,5 @@ mod tables;
 fn main() {
     pairs::every_pair();
     pairs::tallies();
+    tables::overlooked();
 }

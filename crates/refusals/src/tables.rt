@@ -4,6 +4,7 @@ use bench::lend::front32;
 use bench::lend::part16;
 use bench::lend::part32;
 use bench::lend::same32;
+use bench::show;
 use bench::small::table_ab;
 use bench::small::table_b;
 use bench::small::tabled;
@@ -41,6 +42,17 @@ pub fn add_trial(p: Pair) {
     let lent = front32(&mut table, p.size(3, 24));
     let boundaries = part16(&column, p.pick_size(5, 3, 2));
     let answer = add_column(lent, p.pick(1, 0, 4), p.pick(2, 0, 6), tally, boundaries);
+    tabled(answer, &table, &before, true);
+}
+
+// Adding looks at no cell of a thickness that is not allowed, nor at one where the column has no share.
+pub fn overlooked() {
+    let mut table = table_ab();
+    table[0] = 5;
+    table[19] = 4000000000;
+    let before = table;
+    show::text(b"add overlooks:");
+    let answer = add_column(&mut table, 4, 6, Tally { columns: 2 }, &[0, 3]);
     tabled(answer, &table, &before, true);
 }
 

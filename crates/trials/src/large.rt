@@ -7,6 +7,7 @@ use bench::show;
 use bench::small::NO_BOUND;
 use bench::small::answered;
 use plan::plan;
+use recount::recount;
 use table::Tabled;
 use table::Tally;
 use table::add_column;
@@ -155,6 +156,9 @@ fn height_trial(height: u32, top: u16, n: u32) {
     };
     plan_line(job, &table, &mut errors, &mut thicknesses, &mut list);
     count_line(job, &table, &errors, &thicknesses, n);
+    show::text(b"recount -1 1:");
+    answered(recount(&table, height, 2, Tally { columns: 1 }, NO_BOUND, &[-1, 1]));
+    show::text(b"\n");
 }
 
 pub fn heights() {
