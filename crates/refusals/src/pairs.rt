@@ -145,7 +145,7 @@ fn tally(call: Call, columns: u32, more: u32) {
     trial(call, Pair::tallied(columns, more));
 }
 
-// Both sides of the limit on columns: adding to a table, handing it over, joining, taking off.
+// Both sides of the limit on columns: adding to a table, handing it over, joining, taking off; and counts too small for the cells.
 fn add_tallies() {
     tally(Call::Add, 999999, 1);
     tally(Call::Add, 1000000, 1);
@@ -154,13 +154,17 @@ fn add_tallies() {
 }
 
 fn handed_tallies() {
+    tally(Call::Plan, 1, 0);
     tally(Call::Plan, 1000000, 0);
     tally(Call::Plan, 1000001, 0);
+    tally(Call::Recount, 1, 0);
     tally(Call::Recount, 1000000, 0);
     tally(Call::Recount, 1000001, 0);
 }
 
 fn join_tallies() {
+    tally(Call::Join, 1, 2);
+    tally(Call::Join, 2, 0);
     tally(Call::Join, 2, 999998);
     tally(Call::Join, 999999, 1);
     tally(Call::Join, 1000000, 1);
@@ -170,6 +174,7 @@ fn join_tallies() {
 }
 
 fn take_tallies() {
+    tally(Call::Take, 2, 0);
     tally(Call::Take, 1000000, 1);
     tally(Call::Take, 1000000, 999999);
     tally(Call::Take, 1000000, 1000000);

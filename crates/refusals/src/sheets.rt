@@ -35,9 +35,10 @@ fn sheets_kept(
 ) -> bool {
     let words = [7u64; 96];
     let bytes = [7u8; 96];
+    let fives = [5u64; 96];
     same64(errors, &words, entries)
         && same8(thicknesses, &bytes, entries)
-        && same64(list, &words, counts)
+        && same64(list, &fives, counts)
 }
 
 // The end of a line: the answer of a plan, both sheets and the list, and whether other memory is as before.
@@ -72,7 +73,7 @@ pub fn plan_trial(p: Pair) {
     let table = spoiled_ab(p, 8);
     let mut errors = [7u64; 96];
     let mut thicknesses = [7u8; 96];
-    let mut list = [7u64; 96];
+    let mut list = [5u64; 96];
     let answer = plan(
         part32(&table, p.size(3, 24)),
         p.pick(1, 0, 4),
@@ -153,7 +154,7 @@ fn read_sheets(p: Pair, errors: [u64; 96], thicknesses: [u8; 96]) {
 pub fn read_trial(p: Pair) {
     let mut errors = [7u64; 96];
     let mut thicknesses = [7u8; 96];
-    let mut list = [7u64; 96];
+    let mut list = [5u64; 96];
     plan(
         &table_ab(),
         4,
