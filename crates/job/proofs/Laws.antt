@@ -62,3 +62,13 @@ module _ (s : List ℕ) (st : State) (at : ℕ) (kind : Kind) where
 
   pub body-passed : Whole → first (bodyChecks s st at kind) ≡ none → moved st at (done (found s st at kind)) ≡ recordOf s st at kind
   body-passed w e = by-body w none e
+
+-- checks that pass where they are placed pass
+pub placed-passed : (at : ℕ) (cs : List (Check Numbered)) → first (placed at cs) ≡ none → first cs ≡ none
+placed-passed at [] e = refl
+placed-passed at (c ∷ cs) e = go (c .holds) e (placed-passed at cs)
+  where
+    go : (b : Bool) → cond b (some (record { number = c .says .number; place = at })) (first (placed at cs)) ≡ none → (first (placed at cs) ≡ none → first cs ≡ none)
+        → cond b (some (c .says)) (first cs) ≡ none
+    go true q k = absurd (let z : _≡_ {A = ℕ} 0 1 = cc in omega arith)
+    go false q k = k q

@@ -1,2 +1,5 @@
 pub mod Bytes
 pub mod Record
+pub mod Fold
+pub mod File
+pub mod Load

@@ -5,15 +5,30 @@ ghost use lib.ListN.{length};
 ghost use Rattle.lists.specs.Checks.{first};
 ghost use Rattle.plate.specs.Refusal.{numberOf, refused};
 ghost use Rattle.plate.specs.Checked.{saidBy};
+ghost use Rattle.plate.specs.Settings.{settingsChecks};
+ghost use lib.Dec.{ltb};
+ghost use mathlib.Core.Bool.{_||_};
+ghost use mathlib.Core.List.{[]};
+ghost use mathlib.Core.Option.{none};
 ghost use Rattle.column.specs.Order.{columnChecks};
 ghost use Rattle.job.specs.Bytes.{le16, le32, words};
-ghost use Rattle.job.specs.Record.{settings as settingsKind, column as columnKind, ending as endingKind, remark as remarkKind, kindOf, moved, recordOf, readRecord, startState, counted as State·counted, toldStep};
+ghost use Rattle.paper.specs.Table.{cells};
+ghost use Rattle.paper.specs.Sheets.{entries};
+ghost use Rattle.table.specs.Plates.{tableOf};
+ghost use Rattle.table.specs.Tabled.{toldTable};
+ghost use Rattle.job.specs.File.{jobOf};
+ghost use Rattle.job.specs.Load.{Sane, Heeded, Surveyed, Whole, Adds, Addable, addedAll, columnIn, columnsIn, toldLoad, loadAnswer, loadTable};
+ghost use Rattle.job.specs.Record.{settings as settingsKind, column as columnKind, ending as endingKind, remark as remarkKind, kindOf, moved, recordOf, readRecord, startState, toldRead, counted as State·counted, toldStep};
 use column::check_column;
 use plate::refusal::Checked;
 use plate::refusal::Reason;
+use plate::refusal::Refusal;
 use plate::settings::Made;
 use plate::settings::Settings;
+use table::Tabled;
 use table::Tally;
+use table::add_column;
+use table::clear_table;
 
 // What a settings record asks for.
 pub struct Asked {
@@ -308,4 +323,226 @@ fn check_at(input: &[u8], start: usize, count: usize, height: usize) -> Checked
 {
     let mut bounds = [0u16; 64];
     check_decoded(input, start, &mut bounds[..count], height)
+}
+
+// ---- a whole file
+
+// What a record means for the file that it stands in: it is read on, it is whole, or it is refused.
+pub enum Heed {
+    Onward,
+    Whole,
+    Refused(Refusal),
+}
+
+// What a look through the whole file finds.
+pub enum Survey {
+    Whole(Asked),
+    Refused(Refusal),
+}
+
+// What goes with the table of a job: what its settings ask for, and its column count.
+pub struct Load {
+    pub asked: Asked,
+    pub tally: Tally,
+}
+
+pub enum Loaded {
+    Done(Load),
+    Refused(Refusal),
+}
+
+// Whether a table or a sheet of these settings has more than so many entries.
+fn is_large(asked: Asked, most: usize) -> bool
+    requires { ⌜ first (settingsChecks (asked .height) (asked .«set»)) ≡ none ⌝ }
+    ensures { λ r. ⌜ r ≡ (ltb most (cells (asked .height) (asked .«set»)) || ltb most (entries (asked .height) (asked .«set»))) ⌝ }
+{
+    let made = Settings::new(asked.height, asked.set);
+    match made {
+        Made::Bad(_) => false,
+        Made::Good(s) => {
+            if most < s.cells {
+                return true;
+            }
+            most < s.entries
+        }
+    }
+}
+
+fn heed_refused(reason: Reason, place: usize) -> Heed
+    ensures { λ r. ⌜ r ≡ Heed.Refused (record { reason = reason; place = place }) ⌝ }
+{
+    Heed::Refused(Refusal {
+        reason,
+        place: place as u64,
+    })
+}
+
+// The record at `at` was read; the file has `length` bytes.
+fn judge(step: Step, at: usize, input: &[u8], most: usize) -> Heed
+    requires { ⌜ Sane (toldStep step .told) ⌝ }
+    ensures { λ r. ⌜ Heeded r most (now (input .entry)) at (toldStep step) ⌝ }
+{
+    let read = step.read;
+    match read {
+        Read::Fault { reason, place } => heed_refused(reason, place),
+        Read::End(_) => {
+            let cursor = step.cursor;
+            let next = cursor.at;
+            if next < input.len() {
+                return heed_refused(Reason::Malformed, next);
+            }
+            Heed::Whole
+        }
+        Read::Settings(asked) => {
+            if is_large(asked, most) {
+                return heed_refused(Reason::TooLarge, at);
+            }
+            Heed::Onward
+        }
+        Read::Column { start: _, count: _ } => Heed::Onward,
+        Read::Remark => Heed::Onward,
+    }
+}
+
+// Looks through the whole file and writes nothing.
+fn look_through(input: &[u8], most: usize) -> Survey
+    ensures { λ r. ⌜ Surveyed r (jobOf most (now (input .entry))) ⌝ }
+{
+    let mut cursor = Cursor::new();
+    let mut state = State::new();
+    loop {
+        let at = cursor.at;
+        let step = cursor.read(input, state);
+        let heed = judge(step, at, input, most);
+        match heed {
+            Heed::Refused(refusal) => {
+                return Survey::Refused(refusal);
+            }
+            Heed::Whole => {
+                let last = step.state;
+                let asked = last.asked;
+                return Survey::Whole(asked);
+            }
+            Heed::Onward => {
+                cursor = step.cursor;
+                state = step.state;
+            }
+        }
+    }
+}
+
+// Adds the column that stands at `start`: its boundaries are put into `out`, which is as long as they are.
+fn add_decoded(
+    input: &[u8],
+    start: usize,
+    out: &mut [u16],
+    asked: Asked,
+    tally: Tally,
+    table: &mut [u32],
+) -> Tabled
+    requires { ⌜ start + 2 * length (now out) ≤ length (now input) ⌝ }
+    ensures { λ r. ⌜ Adds asked tally (words (now (input .entry)) start (length (now (out .entry)))) (toldTable r) (now (table .entry)) (now (table .exit)) ⌝ }
+{
+    decode(input, start, out);
+    add_column(table, asked.height, asked.set, tally, out)
+}
+
+// Adds the column of `count` boundaries at `start`.
+fn add_at(
+    input: &[u8],
+    start: usize,
+    count: usize,
+    asked: Asked,
+    tally: Tally,
+    table: &mut [u32],
+) -> Tabled
+    requires { ⌜ (count ≤ 64) × (start + 2 * count ≤ length (now input)) ⌝ }
+    ensures { λ r. ⌜ Adds asked tally (words (now (input .entry)) start count) (toldTable r) (now (table .entry)) (now (table .exit)) ⌝ }
+{
+    let mut bounds = [0u16; 64];
+    add_decoded(input, start, &mut bounds[..count], asked, tally, table)
+}
+
+// Adds what was read, where it is a column; it is never refused.
+fn add_read(input: &[u8], read: Read, asked: Asked, tally: Tally, table: &mut [u32]) -> Tally
+    requires { ⌜ Addable (now input) asked tally (now table) (toldRead read) ⌝ }
+    ensures { λ r. ⌜ (now (table .exit) ≡ addedAll asked (columnIn (now (input .entry)) (toldRead read)) (now (table .entry)))
+        × (r .columns ≡ tally .columns + length (columnIn (now (input .entry)) (toldRead read))) ⌝ }
+{
+    match read {
+        Read::Column { start, count } => {
+            let tabled = add_at(input, start, count, asked, tally, table);
+            match tabled {
+                Tabled::Done(more) => more,
+                Tabled::Refused(_) => tally,
+            }
+        }
+        Read::Settings(_) => tally,
+        Read::End(_) => tally,
+        Read::Remark => tally,
+        Read::Fault {
+            reason: _,
+            place: _,
+        } => tally,
+    }
+}
+
+// Adds the columns of a file that was looked through to a table that was cleared.
+fn fill(input: &[u8], most: usize, asked: Asked, table: &mut [u32]) -> Tally
+    requires { ⌜ Whole most asked (jobOf most (now input)) ⌝ }
+    requires { ⌜ (cells (asked .height) (asked .«set») ≤ length (now table)) × (now table ≡ tableOf (asked .height) (asked .«set») [] (now table)) ⌝ }
+    ensures { λ r. ⌜ (now (table .exit) ≡ tableOf (asked .height) (asked .«set») (columnsIn (jobOf most (now (input .entry)))) (now (table .entry)))
+        × (r .columns ≡ length (columnsIn (jobOf most (now (input .entry))))) ⌝ }
+{
+    let mut cursor = Cursor::new();
+    let mut state = State::new();
+    let mut tally = Tally { columns: 0 };
+    loop {
+        let at = cursor.at;
+        let step = cursor.read(input, state);
+        let heed = judge(step, at, input, most);
+        match heed {
+            Heed::Refused(_) => {
+                return tally;
+            }
+            Heed::Whole => {
+                return tally;
+            }
+            Heed::Onward => {
+                let read = step.read;
+                tally = add_read(input, read, asked, tally, table);
+                cursor = step.cursor;
+                state = step.state;
+            }
+        }
+    }
+}
+
+// The file was looked through, and asks for this: 3, or the table.
+fn load_whole(input: &[u8], most: usize, asked: Asked, table: &mut [u32]) -> Loaded
+    requires { ⌜ Whole most asked (jobOf most (now input)) ⌝ }
+    ensures { λ r. ⌜ (toldLoad r ≡ loadAnswer (now (table .entry)) (jobOf most (now (input .entry))))
+        × (now (table .exit) ≡ loadTable (now (table .entry)) (jobOf most (now (input .entry)))) ⌝ }
+{
+    let cleared = clear_table(table, asked.height, asked.set);
+    match cleared {
+        Tabled::Refused(refusal) => Loaded::Refused(refusal),
+        Tabled::Done(_) => {
+            let tally = fill(input, most, asked, table);
+            Loaded::Done(Load { asked, tally })
+        }
+    }
+}
+
+// Reads a job file into a lent table: the file's refusals in its own order, with 17 straight after 1 and 2 where a table or a sheet of its
+// settings has more than `most` entries; then 3. The file is judged whole before the table is written.
+pub fn read_job(input: &[u8], most: usize, table: &mut [u32]) -> Loaded
+    ensures { λ r. ⌜ (toldLoad r ≡ loadAnswer (now (table .entry)) (jobOf most (now (input .entry))))
+        × (now (table .exit) ≡ loadTable (now (table .entry)) (jobOf most (now (input .entry)))) ⌝ }
+{
+    let survey = look_through(input, most);
+    match survey {
+        Survey::Refused(refusal) => Loaded::Refused(refusal),
+        Survey::Whole(asked) => load_whole(input, most, asked, table),
+    }
 }

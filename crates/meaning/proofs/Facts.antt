@@ -8,6 +8,7 @@ use native.Mathlib.Omega.{arith}
 use lib.IntN.{ℤ}
 use Rattle.lists.specs.Best.{bestOf}
 use Rattle.paper.specs.Layer.{allowed, leastAbove, tmin, greatestTo, tmax, insideCount, share}
+use Rattle.paper.specs.Table.{rows, cells, startAt, thicknessAt, cellOf}
 use Rattle.paper.specs.Sequence.{error, M}
 use Rattle.paper.specs.Facts as fact
 use Rattle.paper.specs.Facts.{A, B, both, free, plate, Holds, All, facts}
@@ -38,12 +39,12 @@ x and y = (x, y)
 
 -- 'Marked P are to be proved as facts about the definitions, gathered into a single list that one theorem covers'
 pub facts-hold : All facts
-unfolding tmax greatestTo tmin leastAbove allowed M chosen top walk last least bestOf shape
+unfolding tmax greatestTo tmin leastAbove allowed rows cells startAt thicknessAt cellOf M chosen top walk last least bestOf shape
 facts-hold =
     -- P1 to P3
-    refl
-    and refl
-    and refl
+    (omega arith, refl, refl, refl)
+    and (omega arith, refl, refl, refl)
+    and (omega arith, refl, refl, refl)
     -- P4 to P6
     and (refl, refl)
     and (refl, refl)

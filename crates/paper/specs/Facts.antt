@@ -1,12 +1,13 @@
 -- Document 01, 'One plate in full': N = 4, T = {2, 3}, columns A = 1, 4 and B = 0, 3. The facts marked P1 to P13 as one list, over the
 -- document's own definitions. Assumes nothing.
-use Prim.Native.Nat.{ℕ, _-_, _^_}
+use Prim.Native.Nat.{ℕ, _-_, _^_, _<_}
 use mathlib.Core.Path.{_≡_}
 use mathlib.Core.Bool.{Bool, false}
 use mathlib.Core.List.{List, [], _∷_}
 use lib.IntN.{ℤ, pos, negℤ}
 use lib.Ieee.{Float}
 use Rattle.paper.specs.Layer.{Plate, ofColumns, share, filled, shares}
+use Rattle.paper.specs.Table.{cells, startAt, thicknessAt, cellOf}
 use Rattle.paper.specs.Sequence.{error, M, Chosen, None}
 use Rattle.paper.specs.Motor.{Times, MotorHeight}
 
@@ -30,8 +31,8 @@ abbrev pub minus : ℕ → ℤ
 minus n = negℤ (pos n)
 
 pub data Fact : Type 0 where
-  -- the cell of a start and a thickness
-  cell : ℤ → ℕ → ℕ → Fact
+  -- the index of a cell: its start, its thickness, and what it holds
+  cell : ℕ → ℤ → ℕ → ℕ → Fact
   -- the picture of a column in a layer, and its share
   picture : List ℕ → ℤ → ℕ → Bool → ℕ → Fact
   -- a column of no boundaries
@@ -45,7 +46,7 @@ pub data Fact : Type 0 where
   motor : ℕ → ℤ → ℤ → Fact
 
 abbrev pub Holds : Fact → Type 0
-Holds (cell z t e) = shares both z t ≡ e
+Holds (cell i z t e) = (i < cells 4 6) × (startAt 6 i ≡ z) × (thicknessAt 6 i ≡ t) × (cellOf 6 (shares both) i ≡ e)
 Holds (picture bs z t f s) = (filled bs z t ≡ f) × (share bs z t ≡ s)
 Holds empty = (z : ℤ) (t : ℕ) → share [] z t ≡ 0
 Holds (plan columns bound n e zs) = Chosen (plate columns) bound n zs × (error (plate columns) zs ≡ e)
@@ -60,9 +61,9 @@ All (f ∷ fs) = Holds f × All fs
 abbrev pub facts : List Fact
 facts =
     -- P1 to P3
-    cell (pos 0) 2 1
-    ∷ cell (minus 1) 3 2
-    ∷ cell (pos 1) 2 0
+    cell 7 (pos 0) 2 1
+    ∷ cell 5 (minus 1) 3 2
+    ∷ cell 10 (pos 1) 2 0
     -- P4 to P6
     ∷ picture A (pos 0) 2 false 1
     ∷ picture (1 ∷ 2 ∷ []) (pos 0) 3 false 1

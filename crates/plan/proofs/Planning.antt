@@ -21,10 +21,10 @@ use Rattle.plate.specs.declared.refusal.Answer.{Answer}
 use Rattle.plate.specs.declared.refusal.Answer.the-variants.{Refused}
 use Rattle.plate.specs.declared.settings.Settings.{Settings}
 use Rattle.table.specs.Cells.{firstOut}
-use Rattle.table.specs.Calls.{short, outCell, tableRest, tableChecks}
+use Rattle.table.specs.Calls.{short, outCell, boundChecks, tableRest, tableChecks}
 use Rattle.table.proofs.Bounds.{within-small}
 use Rattle.table.proofs.Cells.{cells-sound}
-use Rattle.plan.specs.Plan.{Sheets, boundChecks, planRest, planned, Fills}
+use Rattle.plan.specs.Plan.{Sheets, planRest, planned, Fills}
 use Rattle.plan.specs.Planning.{Ready}
 
 -- a refusal leaves what was lent
@@ -60,7 +60,7 @@ module _ (N T c : ℕ) (table : List ℕ) (lent : Sheets) where
           rest-is = simp (le-ltb _ _ room, le-ltb _ _ errors, le-ltb _ _ thicknesses, le-ltb _ _ leasts)
 
           checks-are : first (settingsChecks N T) ≡ none → first (tableChecks N T c table) ≡ first (boundChecks N T c table)
-          unfolding tableChecks tableRest short boundChecks
+          unfolding tableChecks tableRest short
           checks-are settings = first-passed (settingsChecks N T) (tableRest N T c table) settings ∙ simp (le-ltb _ _ room)
 
           pub said : first (settingsChecks N T) ≡ none → (k : Checked) → saidBy k ≡ first (tableChecks N T c table) → toldBy (saidBy k) (M N T) ≡ decided (planRest N T c table lent) (M N T)

@@ -21,7 +21,8 @@ use Rattle.sequence.specs.Least.{plus, via, least}
 use Rattle.sequence.specs.Sheets.{mark, unmark}
 use Rattle.sequence.proofs.Bounds.{least-few, least-many}
 use Rattle.sequence.proofs.Marks.{Small, unmark-mark}
-use Rattle.plan.specs.Planning.{Ready, tableCell, planRules, bestTo}
+use Rattle.table.specs.Cells.{cellFrom}
+use Rattle.plan.specs.Planning.{Ready, planRules, bestTo}
 use Rattle.plan.specs.Rows.{rulesOf, errorTo, thicknessTo, RowTo, Under, Usable}
 use Rattle.plan.proofs.Places.{row-in}
 use Rattle.plan.proofs.Sums.{layer-thick, least-small, sum-most, via-small}
@@ -35,7 +36,7 @@ pub record Relaxing (table : List ℕ) (bound q t : ℕ) (E F : List ℕ) (from 
   pub row : RowTo s (rulesOf s bound table) q (t - 1) (s .counts + 1) E F E F
   pub from-is : from ≡ (q - t) * (s .counts + 1)
   pub to-is : to ≡ q * (s .counts + 1) + 1
-  pub cell-is : cell ≡ tableCell (s .«set») table (q - t + 33 - s .tmax) t
+  pub cell-is : cell ≡ cellFrom (s .«set») table (q - t + 33 - s .tmax) t
   pub first-is : first ≡ (q - t) / s .tmax
   pub end-few : end ≤ s .counts
   pub end-past : (m : ℕ) → end ≤ m → m < s .counts → q - t < m * s .tmin

@@ -1,15 +1,12 @@
 -- No sum of layers' errors comes near the mark for none: over a table whose cells are at most 16,000,000, m layers that end at a height of
 -- the sheets have an error of at most m times that. By induction on the layers from the top down. Assumes nothing.
 use Prim.Native.Nat.{ℕ, zero, suc, _+_, _-_, _*_, _≤_, _<_}
-use mathlib.Core.Path.{_≡_, refl, sym}
+use mathlib.Core.Path.{_≡_, refl}
 use mathlib.Core.Bool.{true}
 use mathlib.Core.List.{List}
 use mathlib.Core.Option.{Option, none, some}
 use native.Mathlib.Omega.{arith}
-use lib.Arith.{digits-lt}
 use lib.Dec.{leb}
-use lib.ListN.{getD}
-use Rattle.paper.specs.Layer.{tmax}
 use Rattle.paper.specs.Sheets.{missing}
 use Rattle.paper.proofs.Thicknesses.{and-true, allowed-from, allowed-tmax, tmin-least}
 use Rattle.plate.specs.declared.settings.Settings.{Settings}
@@ -19,47 +16,38 @@ use Rattle.sequence.specs.Rules.{shape}
 use Rattle.sequence.proofs.Least.{some-starts, via-some, least-step}
 use Rattle.sequence.proofs.Marks.{Small}
 use Rattle.sequence.proofs.Sheets.{shape-allowed}
-use Rattle.plan.specs.Planning.{Ready, tableCell, planRules}
+use Rattle.table.specs.Cells.{cellFrom}
+use Rattle.table.proofs.Cells.{cell-in, cell-read}
+use Rattle.plan.specs.Planning.{Ready, planRules}
 use Rattle.plan.specs.Rows.{rulesOf}
 
 small : (o : Option ℕ) → ((e : ℕ) → o ≡ some e → e < missing) → Small o
 small none f = tt
 small (some e) f = f e refl
 
--- the cell of a row and a thickness
-module _ (s : Settings) (table : List ℕ) (ready : Ready s table) where
-  pub cell-in : (start t : ℕ) → start < s .rows → 1 ≤ t → t ≤ s .tmax → start * s .tmax + (t - 1) < s .cells
-  cell-in start t l a b = rw (ready .sound .cells-are) (digits-lt l (omega arith))
-
-  pub cell-is : (start t : ℕ) → getD table (start * s .tmax + (t - 1)) 0 ≡ tableCell (s .«set») table (start + 33 - s .tmax) t
-  unfolding tableCell
-  cell-is start t =
-      let e : start + 33 - s .tmax + s .tmax - 33 ≡ start = omega (arith, ready .sound .thick) in
-      rw (← ready .sound .greatest, e)
-
--- and the sums of such cells
 module _ (s : Settings) (bound : ℕ) (table : List ℕ) (ready : Ready s table) where
   abbrev p : Rules
   p = rulesOf s bound table
 
   pub cell-small : (h t : ℕ) → h < s .height + 32 + s .tmax → Layer p h t → p .cell (h - t) t ≤ 16_000_000
-  unfolding planRules tableCell
+  unfolding planRules
   cell-small h t u l =
       let r = ready .sound in
-      let g : tmax (s .«set») ≡ s .tmax = sym (r .greatest) in
-      rw g (ready .small ((h - t + s .tmax - 33) * s .tmax + (t - 1)) (cell-in s table ready (h - t + s .tmax - 33) t (omega (arith, r .rows-are, r .low, l .thick, l .above, r .thin, r .order)) (l .thick) (omega (arith, l .thin, r .greatest))))
+      let row = h - t + s .tmax - 33 in
+      let i = cell-in r row (omega (arith, r .rows-are, r .low, l .thick, l .above, r .thin, r .order)) (t - 1) (omega (arith, l .thick, l .thin, r .greatest)) in
+      omega (arith, ready .small (row * s .tmax + (t - 1)) i, cell-read (s .«set») (s .tmax) table row (h - t) t (r .greatest) refl)
 
   -- a permitted thickness is one from tmin to tmax
   pub layer-of : (h t : ℕ) → t ≤ h → p .may (h - t) t ≡ true → Layer p h t
   unfolding planRules
   layer-of h t l e =
-      let a = shape-allowed _ _ _ _ (and-true (shape (s .height) (s .«set») (h - t) t) (leb (tableCell (s .«set») table (h - t) t) bound) e .0) in
+      let a = shape-allowed _ _ _ _ (and-true (shape (s .height) (s .«set») (h - t) t) (leb (cellFrom (s .«set») table (h - t) t) bound) e .0) in
       record { thick = allowed-from _ t a; thin = allowed-tmax _ t a; above = l; allowed = e }
 
   pub layer-thick : (h t : ℕ) → Layer p h t → s .tmin ≤ t
   unfolding planRules
   layer-thick h t l =
-      let a = shape-allowed _ _ _ _ (and-true (shape (s .height) (s .«set») (h - t) t) (leb (tableCell (s .«set») table (h - t) t) bound) (l .allowed) .0) in
+      let a = shape-allowed _ _ _ _ (and-true (shape (s .height) (s .«set») (h - t) t) (leb (cellFrom (s .«set») table (h - t) t) bound) (l .allowed) .0) in
       omega (arith, ready .sound .least, tmin-least _ t a .1)
 
   pub sum-most : (m h e : ℕ) → h < s .height + 32 + s .tmax → least p m h ≡ some e → e ≤ m * 16_000_000

@@ -2,16 +2,15 @@
 -- and the list hold then. Assumes nothing.
 use Prim.Native.Nat.{ℕ}
 use mathlib.Core.Path.{_≡_}
-use mathlib.Core.List.{List, [], _∷_, _++_}
+use mathlib.Core.List.{List, _∷_, _++_}
 use lib.Dec.{ltb}
 use lib.ListN.{length}
 use Rattle.lists.specs.Checks.{Check}
-use Rattle.paper.specs.Table.{mostColumns}
 use Rattle.paper.specs.Sequence.{M}
 use Rattle.paper.specs.Sheets.{entries}
 use Rattle.plate.specs.Refusal.{Told, Numbered, check, decided, after}
 use Rattle.plate.specs.Settings.{settingsChecks}
-use Rattle.table.specs.Calls.{short, outCell}
+use Rattle.table.specs.Calls.{short, boundChecks}
 use Rattle.plan.specs.Planning.{planRules, plannedErrors, plannedThicknesses, plannedList}
 
 -- what a plan is handed to write into
@@ -19,10 +18,6 @@ pub record Sheets : Type 0 where
   pub errors : List ℕ
   pub thicknesses : List ℕ
   pub leasts : List ℕ
-
--- 7 and 6
-unfoldable pub boundChecks : ℕ → ℕ → ℕ → List ℕ → List (Check Numbered)
-boundChecks N T c table = check 7 (ltb mostColumns c) 0 ∷ outCell N T c table ∷ []
 
 unfoldable pub planRest : ℕ → ℕ → ℕ → List ℕ → Sheets → List (Check Numbered)
 planRest N T c table lent =

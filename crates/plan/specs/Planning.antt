@@ -1,12 +1,11 @@
 -- What a plan fills over a table: the rules that the table's cells give, the two sheets, and the list. Assumes nothing.
-use Prim.Native.Nat.{ℕ, zero, suc, _+_, _-_, _*_, _≤_, _<_}
+use Prim.Native.Nat.{ℕ, zero, suc, _+_, _≤_, _<_}
 use mathlib.Core.Bool.{cond, _&&_}
 use mathlib.Core.List.{List}
 use lib.Dec.{leb, ltb}
 use lib.ListN.{length, getD}
 use Rattle.lists.specs.Best.{Best, nothing, found, bestOf}
 use Rattle.lists.specs.Rewrite.{rewritten}
-use Rattle.paper.specs.Layer.{tmax}
 use Rattle.paper.specs.Sequence.{M}
 use Rattle.paper.specs.Sheets.{entries}
 use Rattle.plate.specs.Settings.{Sound}
@@ -15,14 +14,11 @@ use Rattle.sequence.specs.Sequence.{Rules}
 use Rattle.sequence.specs.Least.{via, least, leastOf}
 use Rattle.sequence.specs.Rules.{rules}
 use Rattle.sequence.specs.Sheets.{mark, errorEntry, thicknessEntry}
-
--- the cell of the layer from the datum height h of thickness t
-unfoldable pub tableCell : ℕ → List ℕ → ℕ → ℕ → ℕ
-tableCell T table h t = getD table ((h + tmax T - 33) * tmax T + (t - 1)) 0
+use Rattle.table.specs.Cells.{cellFrom}
 
 -- the rules that a table is planned by
 unfoldable pub planRules : ℕ → ℕ → ℕ → List ℕ → Rules
-planRules N T bound table = rules N T bound (tableCell T table)
+planRules N T bound table = rules N T bound (cellFrom T table)
 
 -- the best of m layers that end at h with a last layer of at most k: what stands in the sheets while a row is being filled
 unfoldable pub bestTo : Rules → ℕ → ℕ → ℕ → Best

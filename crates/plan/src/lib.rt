@@ -13,7 +13,8 @@ ghost use Rattle.lists.specs.Rewrite.{Span};
 ghost use Rattle.paper.specs.Sheets.{missing};
 ghost use Rattle.sequence.specs.Least.{plus};
 ghost use Rattle.sequence.specs.Sheets.{mark, unmark, entry, endOf, faultUnder, boundariesUnder};
-ghost use Rattle.plan.specs.Planning.{Ready, planRules, tableCell, plannedErrors, plannedThicknesses, plannedList};
+ghost use Rattle.table.specs.Cells.{cellFrom};
+ghost use Rattle.plan.specs.Planning.{Ready, planRules, plannedErrors, plannedThicknesses, plannedList};
 ghost use Rattle.plan.specs.Rows.{rulesOf, RowTo, Under, Usable, Planned};
 ghost use Rattle.plan.specs.Reading.{entryChecks, roomChecks, readAnswer, readOut};
 ghost use Rattle.plan.specs.Walking.{faultOf, Within, Roomy, Answered};
@@ -193,7 +194,7 @@ pub fn read_back(
 fn cell_at(table: &[u32], s: Settings, start: usize, t: usize) -> u32
     requires { ⌜ Ready s (now table) ⌝ }
     requires { ⌜ (start < s .rows) × (1 ≤ t) × (t ≤ s .tmax) ⌝ }
-    ensures { λ r. ⌜ r ≡ tableCell (s .«set») (now (table .entry)) (start + 33 - s .tmax) t ⌝ }
+    ensures { λ r. ⌜ r ≡ cellFrom (s .«set») (now (table .entry)) (start + 33 - s .tmax) t ⌝ }
 {
     table[start * s.tmax + (t - 1)]
 }

@@ -7,7 +7,7 @@ use Prim.Native.Nat.{ℕ, zero, suc, _+_, _-_, _≤_, _<_}
 use native.Mathlib.Omega.{arith}
 use native.Mathlib.Decide.{decLt, decLe}
 use lib.Dec.{leb, ltb, le→leb, leb→le, lt→ltb, ltb→lt}
-use lib.IntN.{ℤ, pos, negsuc, negℤ, natAbs, _+ℤ_, _-ℤ_, +ℤ-assoc, +ℤ-comm, +ℤ-negℤ-cancel}
+use lib.IntN.{ℤ, pos, negsuc, negℤ, natAbs, subℕ, _+ℤ_, _-ℤ_, +ℤ-assoc, +ℤ-comm, +ℤ-negℤ-cancel}
 use lib.Signed.{_≤ℤ_, _<ℤ_, leZ, ltZ, leZ-yes, ltZ-yes}
 use borrow.Author.Tests.{ltb-true, ltb-false, le-ltb, lt-ltb, le-leb, lt-leb}
 use Rattle.paper.specs.Table.{natural}
@@ -45,14 +45,18 @@ height-datum (pos n) h =
 height-datum (negsuc n) h =
     ap (λ (b : Bool). cond b (negsuc (32 - suc (31 - n))) (pos (31 - n - 32))) (lt-ltb (31 - n) 32 (omega arith)) ∙ ap negsuc (omega arith)
 
+-- a difference of natural numbers, and 0 where it is below 0
+pub natural-sub : (a b : ℕ) → natural (subℕ a b) ≡ a - b
+natural-sub a b = go (ltb a b) refl
+  where
+    go : (t : Bool) → ltb a b ≡ t → natural (cond t (negsuc (b - suc a)) (pos (a - b))) ≡ a - b
+    go true e = omega (arith, ltb-true a b e)
+    go false e = refl
+
 -- the sum with 32, and 0 where that is below 0
 pub datum-sum : (z : ℤ) → natural (z +ℤ pos 32) ≡ datum z
 datum-sum (pos n) = refl
-datum-sum (negsuc n) = go (ltb 32 (suc n)) refl
-  where
-    go : (b : Bool) → ltb 32 (suc n) ≡ b → natural (cond b (negsuc (suc n - 33)) (pos (32 - suc n))) ≡ 31 - n
-    go true e = omega (arith, ltb-true 32 (suc n) e)
-    go false e = omega arith
+datum-sum (negsuc n) = natural-sub 32 (suc n) ∙ omega arith
 
 -- orders of whole numbers are orders of datum heights
 pub below-height : (z : ℤ) (h : ℕ) → 1 ≤ h → ltZ z (heightOf h) ≡ ltb (datum z) h

@@ -30,27 +30,27 @@ reasons =
     ∷ []
 
 -- what stands there at a number, counted from 1
-abbrev reasonOf : ℕ → Reason
+abbrev pub reasonOf : ℕ → Reason
 reasonOf n = getD reasons (n - 1) reason.Height
 
-read-back : (r : Reason) → reasonOf (numberOf r) ≡ r
-read-back reason.Height = refl
-read-back reason.NoThickness = refl
-read-back reason.ShortBuffer = refl
-read-back reason.BoundaryCount = refl
-read-back reason.Boundary = refl
-read-back reason.Cell = refl
-read-back reason.Columns = refl
-read-back reason.Settings = refl
-read-back reason.NotAPart = refl
-read-back reason.Count = refl
-read-back reason.NoSequence = refl
-read-back reason.Unreadable = refl
-read-back reason.NotAdmissible = refl
-read-back reason.Step = refl
-read-back reason.MotorBoundary = refl
-read-back reason.Malformed = refl
-read-back reason.TooLarge = refl
+pub reason-back : (r : Reason) → reasonOf (numberOf r) ≡ r
+reason-back reason.Height = refl
+reason-back reason.NoThickness = refl
+reason-back reason.ShortBuffer = refl
+reason-back reason.BoundaryCount = refl
+reason-back reason.Boundary = refl
+reason-back reason.Cell = refl
+reason-back reason.Columns = refl
+reason-back reason.Settings = refl
+reason-back reason.NotAPart = refl
+reason-back reason.Count = refl
+reason-back reason.NoSequence = refl
+reason-back reason.Unreadable = refl
+reason-back reason.NotAdmissible = refl
+reason-back reason.Step = refl
+reason-back reason.MotorBoundary = refl
+reason-back reason.Malformed = refl
+reason-back reason.TooLarge = refl
 
 pub number-only : (a b : Reason) → numberOf a ≡ numberOf b → a ≡ b
-number-only a b e = sym (read-back a) ∙ ap reasonOf e ∙ read-back b
+number-only a b e = sym (reason-back a) ∙ ap reasonOf e ∙ reason-back b

@@ -9,24 +9,25 @@ use lib.IntN.{ℤ}
 use lib.ListN.{length, take}
 use Rattle.paper.specs.Layer as paper
 use Rattle.paper.specs.Layer.{ofColumns}
-use Rattle.paper.specs.Table.{cells, mostColumns, InBounds, Table, cellAt, ofTable}
+use Rattle.paper.specs.Table.{cells, InBounds, Table, cellAt, ofTable}
 use Rattle.paper.specs.Sequence.{M, None}
 use Rattle.paper.specs.Sheets.{entries}
 use Rattle.plate.specs.Refusal.{Told, done, refused, after}
 use Rattle.plate.proofs.Decided.{settings-good}
-use Rattle.table.specs.Calls.{short, outCell}
-use Rattle.plan.specs.Plan.{Sheets, boundChecks, planRest, planAnswer, planned, planSheets}
+use Rattle.table.specs.Calls.{short}
+use Rattle.plan.specs.Plan.{Sheets, planRest, planAnswer, planned, planSheets}
 use Rattle.plan.specs.Reading.{readAnswer, readOut}
 use Rattle.recount.specs.Recount.{recountAnswer}
 use Rattle.meaning.proofs.Choice.{length-count}
 use Rattle.meaning.proofs.Table.{table-agrees, table-chosen, table-none}
 use Rattle.meaning.proofs.Usable.{same-error}
 use Rattle.promises.specs.Plans.{Answers}
-use Rattle.promises.proofs.Fine.{settings-fine, out-fine}
+use Rattle.table.proofs.Bounds.{bounds-fine}
+use Rattle.promises.proofs.Fine.{settings-fine}
 use Rattle.promises.proofs.Plans.{plan-reads}
 use Rattle.promises.proofs.Recounts.{recounts}
 
-take-front : (xs ys : List ℤ) → take (length xs) (xs ++ ys) ≡ xs
+pub take-front : (xs ys : List ℤ) → take (length xs) (xs ++ ys) ≡ xs
 take-front [] ys = refl
 take-front (x ∷ xs) ys = ap (λ (l : List ℤ). x ∷ l) (take-front xs ys)
 
@@ -38,12 +39,11 @@ pub record Room (N T : ℕ) (lent : Sheets) : Type 0 where
 
 module _ (N T : ℕ) (settings : paper.Settings N T) where
   pub plan-done : (c : ℕ) (table : List ℕ) (lent : Sheets) → InBounds N T c table → Room N T lent → planAnswer N T c table lent ≡ done (M N T)
-  unfolding planAnswer planRest boundChecks short outCell
+  unfolding planAnswer planRest short
   plan-done c table lent b r =
-      let e = out-fine N T c table (b .bounded) in
       sym (settings-good N T (planRest N T c table lent) (M N T) (settings-fine N T settings))
       ∙ simp
-      (le-ltb (length table) (cells N T) (b .size), le-ltb (length (lent .errors)) (entries N T) (r .errors), le-ltb (length (lent .thicknesses)) (entries N T) (r .thicknesses), le-ltb (length (lent .leasts)) (M N T) (r .leasts), le-ltb mostColumns c (b .columns), e, le-ltb (cells N T) (cells N T) (omega arith))
+      (le-ltb (length table) (cells N T) (b .size), le-ltb (length (lent .errors)) (entries N T) (r .errors), le-ltb (length (lent .thicknesses)) (entries N T) (r .thicknesses), le-ltb (length (lent .leasts)) (M N T) (r .leasts), bounds-fine N T c table b)
 
   pub plan-leaves : (c : ℕ) (table : List ℕ) (bound : ℕ) (lent : Sheets) → InBounds N T c table → Room N T lent → planSheets N T c table bound lent ≡ planned N T bound table lent
   unfolding planSheets

@@ -1,29 +1,23 @@
--- When no check of a call holds: settings in range, a column in order, a buffer with room, cells in bounds. Assumes nothing.
-use mathlib.Core.Path.{_≡_, refl}
-use mathlib.Core.Bool.{Bool, true, false, cond, _&&_, _||_}
+-- When no check of settings or of a column holds: in range, and in order. Assumes nothing.
+use mathlib.Core.Path.{_≡_}
+use mathlib.Core.Bool.{false, cond}
 use mathlib.Core.List.{List}
 use mathlib.Core.Option.{none}
-use Prim.Native.Nat.{ℕ, zero, suc, _-_, _%_, _≤_, _<_}
+use Prim.Native.Nat.{ℕ, zero, suc, _-_, _%_, _<_}
 use native.Mathlib.Omega.{arith}
 use borrow.Author.Tests.{le-ltb, lt-leb, ne-eqb, ltb-false, leb-false, eqb-false}
 use lib.Dec.{ltb, leb, eqb}
 use lib.ListN.{length, getD}
 use Rattle.lists.specs.Checks.{first}
 use Rattle.lists.specs.Search.{lowest}
-use Rattle.lists.proofs.Checks.{first-none}
+use Rattle.lists.proofs.Checks.{first-none, or-false}
 use Rattle.lists.proofs.Search.{lowest-none, lowest-before}
 use Rattle.paper.specs.Layer as paper
 use Rattle.paper.specs.Layer.{Column}
-use Rattle.paper.specs.Table.{cells, thicknessAt, limit}
 use Rattle.paper.proofs.Thicknesses.{empty-is-zero}
 use Rattle.plate.specs.Settings.{settingsChecks}
 use Rattle.plate.proofs.Sizes.{some-member}
 use Rattle.column.specs.Order.{misplaced, firstMisplaced, columnChecks}
-use Rattle.table.specs.Cells.{outOfBounds, firstOut, addend, overfull, firstOverfull, notPart, firstNotPart}
-
-pub or-false : (a b : Bool) → a || b ≡ false → (a ≡ false) × (b ≡ false)
-or-false true b e = absurd (let z : _≡_ {A = ℕ} 0 1 = cc in omega arith)
-or-false false b e = (refl, e)
 
 pub settings-fine : (N T : ℕ) → paper.Settings N T → first (settingsChecks N T) ≡ none
 unfolding settingsChecks
@@ -50,26 +44,6 @@ column-fine N bs c =
     let e = lowest-none (misplaced N bs) (length bs) (misplaced-none N bs c) in
     let o : length bs % 2 ≡ 1 → ⊥ = (λ q. omega (arith, c .even)) in
     simp (ne-eqb (length bs % 2) 1 o, le-ltb 64 (length bs) (c .few), e, le-ltb (length bs) (length bs) (omega arith))
-
--- cells in bounds
-pub out-fine : (N T c : ℕ) (table : List ℕ) → ((i : ℕ) → i < cells N T → getD table i 0 ≤ limit T c (thicknessAt T i)) → firstOut N T c table ≡ cells N T
-unfolding firstOut outOfBounds
-out-fine N T c table w = lowest-none (outOfBounds T c table) (cells N T) (λ i l. le-ltb (limit T c (thicknessAt T i)) (getD table i 0) (w i l))
-
-pub overfull-fine : (N T c : ℕ) (table bs : List ℕ) → ((i : ℕ) → i < cells N T → getD table i 0 ≤ limit T c (thicknessAt T i)) → firstOverfull N T c table bs ≡ cells N T
-unfolding firstOverfull overfull outOfBounds
-overfull-fine N T c table bs w = lowest-none (overfull T c table bs) (cells N T) (λ i l. both (ltb 0 (addend T bs i)) _ (le-ltb (limit T c (thicknessAt T i)) (getD table i 0) (w i l)))
-  where
-    both : (a b : Bool) → b ≡ false → a && b ≡ false
-    both true b e = e
-    both false b e = refl
-
-pub part-fine : (N T d : ℕ) (table other : List ℕ) → ((i : ℕ) → i < cells N T → getD other i 0 ≤ getD table i 0)
-    → ((i : ℕ) → i < cells N T → getD table i 0 - getD other i 0 ≤ limit T d (thicknessAt T i)) → firstNotPart N T d table other ≡ cells N T
-unfolding firstNotPart notPart
-part-fine N T d table other u w =
-    lowest-none (notPart T d table other) (cells N T)
-    (λ i l. simp (le-ltb (getD table i 0) (getD other i 0) (u i l), le-ltb (limit T d (thicknessAt T i)) (getD table i 0 - getD other i 0) (w i l)))
 
 -- ---- and the other way: what passes is in order
 

@@ -5,4 +5,6 @@ pub mod Plans
 pub mod Recounts
 pub mod Refusals
 pub mod Told
+pub mod Places
+pub mod Files
 pub mod Demands

@@ -4,15 +4,14 @@
 -- Assumes nothing.
 use mathlib.Core.Path.{_≡_, refl, sym, ap, ap₂, _∙_, fun-ext}
 use mathlib.Core.Logic.{inl, inr}
-use mathlib.Core.Bool.{Bool, true, false, cond}
 use mathlib.Core.List.{List, [], _++_, map}
 use mathlib.Core.Option.{Option, none, some, Option·map}
-use Prim.Native.Nat.{ℕ, suc, _+_, _-_, _*_, _≤_, _<_}
+use Prim.Native.Nat.{ℕ, _+_, _-_, _≤_, _<_}
 use native.Mathlib.Nat.{mul-le-mul}
 use native.Mathlib.Omega.{arith}
-use borrow.Author.Tests.{leb-true, ltb-true, le-ltb, ne-eqb}
-use lib.Dec.{leb, ltb}
-use lib.IntN.{ℤ, pos, negsuc, _+ℤ_}
+use borrow.Author.Tests.{leb-true, le-ltb, ne-eqb}
+use lib.Dec.{leb}
+use lib.IntN.{ℤ}
 use lib.ListN.{length, getD, drop}
 use Rattle.lists.specs.Checks.{first}
 use Rattle.lists.specs.Best.{Best, nothing, found, value, place}
@@ -21,13 +20,13 @@ use Rattle.lists.proofs.Best.{best-in, best-same}
 use Rattle.lists.proofs.Rewrite.{rewritten-at, length-rewritten}
 use Rattle.paper.specs.Layer as paper
 use Rattle.paper.specs.Layer.{tmax}
-use Rattle.paper.specs.Table.{natural, cellAt, ofTable}
+use Rattle.paper.specs.Table.{cellAt, ofTable}
 use Rattle.paper.specs.Sequence.{M, Chosen, None, error}
 use Rattle.paper.specs.Sheets.{entries, missing}
 use Rattle.paper.proofs.Thicknesses.{and-true}
 use Rattle.plate.specs.Datum.{heightOf}
 use Rattle.plate.specs.Refusal.{Told, done, refused, decided, after}
-use Rattle.plate.proofs.Datum.{sum-height}
+use Rattle.plate.proofs.Datum.{datum-height}
 use Rattle.plate.proofs.Sizes.{sound}
 use Rattle.plate.proofs.Decided.{decided-passed, settings-good}
 use Rattle.sequence.specs.Sequence as working
@@ -37,8 +36,10 @@ use Rattle.sequence.specs.Sheets.{mark, unmark, errorEntry, thicknessEntry, ent
 use Rattle.sequence.proofs.Bounds.{least-bound}
 use Rattle.sequence.proofs.Marks.{Small, unmark-mark}
 use Rattle.sequence.proofs.Sheets.{entry-is, no-fault, walked}
+use Rattle.table.specs.Cells.{cellFrom}
+use Rattle.table.proofs.Cells.{cell-is}
 use Rattle.plan.specs.Plan.{Sheets, planned}
-use Rattle.plan.specs.Planning.{tableCell, planRules, plannedErrors, plannedThicknesses, plannedList}
+use Rattle.plan.specs.Planning.{planRules, plannedErrors, plannedThicknesses, plannedList}
 use Rattle.plan.specs.Reading.{roomChecks, entryChecks, readChecks, readAnswer, readOut}
 use Rattle.meaning.specs.Working as meaning
 use Rattle.meaning.proofs.Choice.{found-exact, found-none, chosen-error, listed, listed-none}
@@ -47,23 +48,12 @@ use Rattle.promises.proofs.Fine.{settings-fine}
 
 -- ---- the rules of a table are those of its plate
 
-natural-height : (x : ℕ) → natural (heightOf x) ≡ x - 32
-natural-height x = go (ltb x 32) refl
-  where
-    go : (b : Bool) → ltb x 32 ≡ b → natural (cond b (negsuc (32 - suc x)) (pos (x - 32))) ≡ x - 32
-    go true e = omega (arith, ltb-true x 32 e)
-    go false e = refl
-
-row-of : (T h : ℕ) → 1 ≤ tmax T → natural (heightOf h +ℤ pos (tmax T - 1)) ≡ h + tmax T - 33
-row-of T h l = ap natural (sum-height h (tmax T - 1)) ∙ natural-height (h + (tmax T - 1)) ∙ omega arith
-
-cell-is : (T : ℕ) → 1 ≤ tmax T → (table : List ℕ) (h t : ℕ) → cellAt T table (heightOf h) t ≡ tableCell T table h t
-unfolding tableCell
-cell-is T l table h t = ap (λ (r : ℕ). getD table (r * tmax T + (t - 1)) 0) (row-of T h l)
+cell-height : (T : ℕ) → 1 ≤ tmax T → (table : List ℕ) (h t : ℕ) → cellAt T table (heightOf h) t ≡ cellFrom T table h t
+cell-height T l table h t = cell-is T l table (heightOf h) t ∙ ap (λ (g : ℕ). cellFrom T table g t) (datum-height h)
 
 pub rules-are : (N T bound : ℕ) (table : List ℕ) → 1 ≤ tmax T → planRules N T bound table ≡ meaning.rulesOf (ofTable N T table) bound
 unfolding planRules
-rules-are N T bound table l = ap (rules N T bound) (fun-ext (λ h. fun-ext (λ t. sym (cell-is T l table h t))))
+rules-are N T bound table l = ap (rules N T bound) (fun-ext (λ h. fun-ext (λ t. sym (cell-height T l table h t))))
 
 -- ---- over the sheets of a plan
 

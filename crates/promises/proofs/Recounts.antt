@@ -18,7 +18,7 @@ use Rattle.lists.proofs.Search.{lowest-none, lowest-before}
 use Rattle.lists.proofs.Checks.{first-passed, first-none, first-later}
 use Rattle.paper.specs.Layer as paper
 use Rattle.paper.specs.Layer.{allowed, tmax}
-use Rattle.paper.specs.Table.{cells, mostColumns, InBounds, natural, ofTable}
+use Rattle.paper.specs.Table.{cells, InBounds, natural, ofTable}
 use Rattle.paper.specs.Sequence.{_!_, count, thickness, errorAt, Admissible, error}
 use Rattle.paper.specs.Groups.{Usable}
 use Rattle.paper.proofs.Thicknesses.{allowed-from, tmax-le}
@@ -27,20 +27,21 @@ use Rattle.plate.specs.Refusal.{done, toldBy}
 use Rattle.plate.specs.Settings.{settingsChecks}
 use Rattle.plate.proofs.Datum.{height-datum, pos-height, neg-height, sum-height, le-up, le-down, lt-up, lt-down, datum-above}
 use Rattle.plate.proofs.Decided.{decided-passed, told-done}
-use Rattle.table.specs.Calls.{short, outCell, tableRest, tableChecks}
+use Rattle.table.specs.Calls.{short, tableRest, tableChecks}
 use Rattle.recount.specs.Recount.{startOut, layerOut, firstLayerOut, sequenceChecks, recountAnswer}
 use Rattle.recount.proofs.Heights.{difference, rise, start-low, start-high, start-in, end-high, end-low, end-in}
 use Rattle.meaning.proofs.Sequence.{start-datum}
 use Rattle.meaning.proofs.Usable.{layers-usable}
-use Rattle.promises.proofs.Fine.{or-false, settings-fine, out-fine}
+use Rattle.lists.proofs.Checks.{or-false}
+use Rattle.table.proofs.Bounds.{bounds-fine}
+use Rattle.promises.proofs.Fine.{settings-fine}
 
 -- a table in bounds passes 1, 2, 3, 7 and 6
 pub table-fine : (N T c : ℕ) (table : List ℕ) → paper.Settings N T → InBounds N T c table → first (tableChecks N T c table) ≡ none
-unfolding tableChecks tableRest short outCell
+unfolding tableChecks tableRest short
 table-fine N T c table settings b =
-    let e = out-fine N T c table (b .bounded) in
     first-passed (settingsChecks N T) (tableRest N T c table) (settings-fine N T settings)
-    ∙ simp (le-ltb (length table) (cells N T) (b .size), le-ltb mostColumns c (b .columns), e, le-ltb (cells N T) (cells N T) (omega arith))
+    ∙ simp (le-ltb (length table) (cells N T) (b .size), bounds-fine N T c table b)
 
 two : (zs : List ℤ) → 1 ≤ count zs → 2 ≤ length zs
 two [] l = absurd (omega arith)

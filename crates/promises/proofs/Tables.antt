@@ -9,7 +9,6 @@ use mathlib.Core.Option.{none}
 use Prim.Native.Nat.{ℕ, zero, suc, _+_, _-_, _*_, _/_, _≤_, _<_}
 use native.Mathlib.Nat.{ℕ-set}
 use native.Mathlib.Omega.{arith}
-use lib.IntN.{ℤ}
 use lib.ListN.{length, getD, length-append}
 use Rattle.lists.specs.Checks.{first}
 use Rattle.lists.proofs.Rewrite.{rewritten-at, length-rewritten}
@@ -19,7 +18,6 @@ use Rattle.paper.specs.Table.{cells, startAt, thicknessAt, cellOf, limit, Table
 use Rattle.plate.specs.Refusal.{Told, done, toldBy, decided, after}
 use Rattle.plate.specs.Settings.{settingsChecks}
 use Rattle.plate.proofs.Decided.{decided-passed, settings-good}
-use Rattle.column.proofs.Shares.{share-le}
 use Rattle.table.specs.declared.Tally.{Tally}
 use Rattle.table.specs.Cells.{addend, firstOut, firstOverfull, firstNotPart}
 use Rattle.table.specs.Tabled.{tallyOf}
@@ -27,21 +25,11 @@ use Rattle.table.specs.Calls.{clearAnswer, clearTable, cleared, addRest, addAns
 use Rattle.table.proofs.Answers.{clear-done, add-done, pair-same, pair-fine, join-pair, take-pair, part-done}
 use Rattle.meaning.proofs.Columns.{shares-append, shares-perm}
 use Rattle.promises.specs.Runs.{Held, holds, next, clear, add, join, take, addAll, tabulate, Group, Joins, one, both, columnsOf, joinAll, Roomy, Columns, Tabulated, Tabulates}
-use Rattle.promises.proofs.Fine.{settings-fine, column-fine, out-fine, overfull-fine, part-fine}
+use Rattle.table.proofs.Bounds.{out-fine, overfull-fine, part-fine}
+use Rattle.table.proofs.Plates.{cell-limit}
+use Rattle.promises.proofs.Fine.{settings-fine, column-fine}
 
 -- ---- cells of plates
-
-shares-le : (columns : List (List ℕ)) (z : ℤ) (t : ℕ) → shares columns z t ≤ length columns * (t / 2)
-shares-le [] z t = omega arith
-shares-le (bs ∷ columns) z t = let x = shares-le columns z t in let y = share-le bs z t in omega arith
-
-cell-limit : (T : ℕ) (columns : List (List ℕ)) (i : ℕ) → cellOf T (shares columns) i ≤ limit T (length columns) (thicknessAt T i)
-unfolding cellOf limit
-cell-limit T columns i = go (allowed T (thicknessAt T i))
-  where
-    go : (b : Bool) → cond b (shares columns (startAt T i) (thicknessAt T i)) 0 ≤ cond b (length columns * (thicknessAt T i / 2)) 0
-    go true = shares-le columns (startAt T i) (thicknessAt T i)
-    go false = omega arith
 
 table-limit : (N T : ℕ) (columns : List (List ℕ)) (buffer : List ℕ) → Table (ofColumns N T columns) buffer
     → (i : ℕ) → i < cells N T → getD buffer i 0 ≤ limit T (length columns) (thicknessAt T i)

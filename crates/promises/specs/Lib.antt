@@ -2,3 +2,4 @@ pub mod Runs
 pub mod Plans
 pub mod Refusals
 pub mod Told
+pub mod Files

@@ -1,15 +1,22 @@
--- 'Each is given exactly when it holds and nothing earlier in the call's order does': the sentence, of every call. Assumes nothing.
-use Prim.Native.Nat.{ℕ}
+-- 'Each is given exactly when it holds and nothing earlier in the call's order does': the sentence, of every call and of reading a record of
+-- a job file. Assumes nothing.
+use Prim.Native.Nat.{ℕ, _+_, _-_}
 use mathlib.Core.Path.{_≡_}
 use mathlib.Core.Logic.{_↔_}
+use mathlib.Core.Bool.{cond}
 use mathlib.Core.List.{List, [], _∷_, _++_}
+use lib.Dec.{ltb}
 use lib.IntN.{ℤ}
+use lib.ListN.{length}
 use Rattle.lists.specs.Checks.{Check, Given}
-use Rattle.plate.specs.Refusal.{Told, refused, Numbered}
+use Rattle.plate.specs.Refusal.{Told, refused, Numbered, check}
 use Rattle.plate.specs.Settings.{settingsChecks}
 use Rattle.column.specs.Picture.{pictureChecks, pictureAnswer}
 use Rattle.motor.specs.Height.{heightChecks, heightAnswer}
 use Rattle.table.specs.Calls.{short, tableChecks, clearAnswer, addRest, addAnswer, pairChecks, joinRest, joinAnswer, takeRest, takeAnswer}
+use Rattle.job.specs.Bytes.{le16}
+use Rattle.job.specs.Record.{kindOf, kindChecks, readRecord}
+use Rattle.job.specs.declared.State.{State}
 use Rattle.plan.specs.Plan.{Sheets, planRest, planAnswer}
 use Rattle.plan.specs.Reading.{readChecks, readAnswer}
 use Rattle.recount.specs.Recount.{sequenceChecks, recountAnswer}
@@ -17,6 +24,13 @@ use Rattle.recount.specs.Recount.{sequenceChecks, recountAnswer}
 -- an answer is a refusal exactly when one of these checks holds and none before it
 abbrev pub Exactly : {X : Type 0} → Told X → List (Check Numbered) → Type 0
 Exactly answer checks = (number place : ℕ) → (answer ≡ refused number place) ↔ Given checks (record { number = number; place = place })
+
+-- what is asked of a record at a place: after the end record, whether something is left; otherwise, fewer than 4 bytes left, and then what its
+-- kind asks
+unfoldable pub recordChecks : List ℕ → State → ℕ → List (Check Numbered)
+recordChecks s st at =
+    cond (st .ended) (check 16 (ltb at (length s)) at ∷ [])
+    (check 16 (ltb (length s - at) 4) at ∷ kindChecks s st at (kindOf (le16 s (at + 2))))
 
 pub record Refusals : Type 0 where
   pub clear : (N T : ℕ) (table : List ℕ) → Exactly (clearAnswer N T table) (settingsChecks N T ++ (short N T table 1 ∷ []))
@@ -31,3 +45,4 @@ pub record Refusals : Type 0 where
       → Exactly (recountAnswer N T c table bound zs) (tableChecks N T c table ++ sequenceChecks N T table bound zs)
   pub picture : (N T : ℕ) (bs : List ℕ) (z : ℤ) (t : ℕ) → Exactly (pictureAnswer N T bs z t) (pictureChecks N T bs z t)
   pub motor : (s : ℕ) (z : ℤ) → Exactly (heightAnswer s z) (heightChecks s z)
+  pub read-record : (s : List ℕ) (st : State) (at : ℕ) → Exactly (readRecord s st at .told) (recordChecks s st at)

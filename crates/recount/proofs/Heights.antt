@@ -1,25 +1,21 @@
--- Document 01's whole numbers and the heights that the code counts from the datum: the tests on starts and ends, the difference of two
--- boundaries, and the row of a table. The tests are the datum's own laws; difference and row go by cases on the signs. Every whole number of
--- -32 or less has the datum height 0: it is no start, and above none, so its difference from a boundary over the datum is no thickness.
--- Assumes nothing.
+-- Document 01's whole numbers and the heights that the code counts from the datum: the tests on starts and ends, and the difference of two
+-- boundaries. The tests are the datum's own laws; the difference goes by cases on the signs. Every whole number of -32 or less has the datum
+-- height 0: it is no start, and above none, so its difference from a boundary over the datum is no thickness. Assumes nothing.
 use mathlib.Core.Path.{_≡_, refl, sym, ap, ap₂, _∙_}
-use mathlib.Core.Bool.{Bool, true, false, cond, not, _||_}
-use mathlib.Core.List.{List}
-use Prim.Native.Nat.{ℕ, zero, suc, _+_, _-_, _*_, _≤_, _<_}
+use mathlib.Core.Bool.{true, false, not, _||_}
+use Prim.Native.Nat.{ℕ, zero, suc, _+_, _-_, _≤_, _<_}
 use native.Mathlib.Omega.{arith}
 use native.Mathlib.Decide.{decLe}
-use borrow.Author.Tests.{ltb-true, lt-ltb, le-ltb, le-leb, lt-leb}
+use borrow.Author.Tests.{lt-ltb, le-ltb, le-leb, lt-leb}
 use lib.Dec.{leb, ltb}
-use lib.IntN.{ℤ, pos, negsuc, negℤ, natAbs, subℕ, _+ℤ_, _-ℤ_}
-use lib.ListN.{getD}
+use lib.IntN.{ℤ, pos, negsuc, negℤ, natAbs, _-ℤ_}
 use lib.Signed.{leZ, ltZ}
 use Rattle.paper.specs.Layer.{tmax}
-use Rattle.paper.specs.Table.{natural, cellAt}
+use Rattle.paper.specs.Table.{natural}
 use Rattle.plate.specs.Datum.{datum, heightOf}
 use Rattle.plate.specs.Settings.{Sound}
 use Rattle.plate.specs.declared.settings.Settings.{Settings}
-use Rattle.plate.proofs.Datum.{below-height, above-height, pos-height, neg-height}
-use Rattle.recount.specs.Layers.{cellFrom}
+use Rattle.plate.proofs.Datum.{natural-sub, below-height, above-height, pos-height, neg-height}
 use Rattle.recount.specs.Recount.{startOut}
 
 -- at most is not above
@@ -35,14 +31,6 @@ not-above (pos a) (pos b) = le-not a b
 not-above (pos a) (negsuc b) = refl
 not-above (negsuc a) (pos b) = refl
 not-above (negsuc a) (negsuc b) = le-not b a
-
--- a difference of natural numbers, and 0 where it is below 0
-natural-sub : (a b : ℕ) → natural (subℕ a b) ≡ a - b
-natural-sub a b = go (ltb a b) refl
-  where
-    go : (t : Bool) → ltb a b ≡ t → natural (cond t (negsuc (b - suc a)) (pos (a - b))) ≡ a - b
-    go true e = omega (arith, ltb-true a b e)
-    go false e = refl
 
 -- the difference of two boundaries, the lower of which is not under the datum
 pub difference : (a b : ℤ) → 1 ≤ datum a → natural (b -ℤ a) ≡ datum b - datum a
@@ -60,16 +48,7 @@ rising (negsuc n) l = absurd (omega arith)
 pub rise : (a b : ℤ) → 1 ≤ datum a → datum a < datum b → natAbs (b -ℤ a) ≡ datum b - datum a
 rise a b h l = rising (b -ℤ a) (omega (arith, difference a b h)) ∙ difference a b h
 
--- the row of a start
-row : (m : ℕ) (z : ℤ) → 1 ≤ m → m ≤ 32 → natural (z +ℤ pos (m - 1)) ≡ datum z + m - 33
-row m (pos n) l u = omega arith
-row m (negsuc n) l u = natural-sub (m - 1) (suc n) ∙ omega arith
-
 module _ (T : ℕ) (some : 1 ≤ tmax T) (few : tmax T ≤ 32) (z : ℤ) where
-  pub cell-is : (table : List ℕ) (t : ℕ) → cellAt T table z t ≡ cellFrom T table (datum z) t
-  unfolding cellFrom
-  cell-is table t = ap (λ (r : ℕ). getD table (r * tmax T + (t - 1)) 0) (row (tmax T) z some few)
-
   -- -tmax < z ≤ 0
   start-is : startOut T z ≡ (not (ltb (32 - tmax T) (datum z)) || ltb 32 (datum z))
   unfolding startOut

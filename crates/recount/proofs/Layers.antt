@@ -3,14 +3,13 @@
 use mathlib.Core.Path.{_≡_, sym, ap, ap₂, _∙_}
 use mathlib.Core.Bool.{true, false, not, _||_}
 use mathlib.Core.List.{List}
-use Prim.Native.Nat.{ℕ, suc, _+_, _-_, _*_, _≤_, _<_}
+use Prim.Native.Nat.{ℕ, suc, _+_, _-_, _≤_, _<_}
 use native.Mathlib.Omega.{arith}
 use native.Mathlib.Decide.{decLt}
 use native.Mathlib.Numerals.{add-one}
 use borrow.Author.Tests.{lt-ltb, le-ltb}
 use lib.Dec.{ltb}
 use lib.IntN.{ℤ}
-use lib.ListN.{getD}
 use Rattle.paper.specs.Layer.{allowed, tmax}
 use Rattle.paper.specs.Table.{cellAt, ofTable}
 use Rattle.paper.specs.Sequence.{_!_, errorAt, errorUnder}
@@ -18,9 +17,11 @@ use Rattle.paper.proofs.Thicknesses.{allowed-under}
 use Rattle.plate.specs.Datum.{datum}
 use Rattle.plate.specs.Settings.{Sound}
 use Rattle.plate.specs.declared.settings.Settings.{Settings}
-use Rattle.recount.specs.Layers.{cellFrom, outBetween, Counted}
+use Rattle.table.specs.Cells.{cellFrom}
+use Rattle.table.proofs.Cells.{cell-is}
+use Rattle.recount.specs.Layers.{outBetween, Counted}
 use Rattle.recount.specs.Recount.{layerOut}
-use Rattle.recount.proofs.Heights.{difference, rise, cell-is, end-high, some-thickness, few-thicknesses}
+use Rattle.recount.proofs.Heights.{difference, rise, end-high, some-thickness, few-thicknesses}
 
 -- what each test says
 module _ (N T : ℕ) (table : List ℕ) (bound below above : ℕ) where
@@ -41,16 +42,11 @@ module _ (N T : ℕ) (table : List ℕ) (bound below above : ℕ) where
     unfolding outBetween
     in-bound b = simp (e, le-ltb (N + tmax T + 31) above h, le-ltb bound (cellFrom T table below (above - below)) b)
 
--- where the code reads
-pub cell-read : (T m : ℕ) (table : List ℕ) (h t : ℕ) → m ≡ tmax T → getD table ((h + m - 33) * m + (t - 1)) 0 ≡ cellFrom T table h t
-unfolding cellFrom
-cell-read T m table h t e = rw e
-
 -- the layer from zk up, over its datum heights
 module _ (N T : ℕ) (table : List ℕ) (bound : ℕ) (zs : List ℤ) (k : ℕ) (some : 1 ≤ tmax T) (few : tmax T ≤ 32) (from : 1 ≤ datum (zs ! k)) where
   error-is : datum (zs ! k) < datum (zs ! suc k)
       → errorAt (ofTable N T table) zs k ≡ cellFrom T table (datum (zs ! k)) (datum (zs ! suc k) - datum (zs ! k))
-  error-is l = ap (cellAt T table (zs ! k)) (rise (zs ! k) (zs ! suc k) from l) ∙ cell-is T some few (zs ! k) table _
+  error-is l = ap (cellAt T table (zs ! k)) (rise (zs ! k) (zs ! suc k) from l) ∙ cell-is T some table (zs ! k) _
 
   layer-rises : datum (zs ! k) < datum (zs ! suc k) → layerOut N T table bound zs k ≡ outBetween N T table bound (datum (zs ! k)) (datum (zs ! suc k))
   unfolding layerOut outBetween

@@ -1,25 +1,22 @@
 -- What the parts of recounting say to each other, over heights counted from the datum: which layers are none of an admissible sequence, what
 -- a look at one tells, what is known of a sequence whose start is in order, and what is answered from there. Assumes nothing.
-use Prim.Native.Nat.{ℕ, _+_, _-_, _*_, _≤_, _<_}
+use Prim.Native.Nat.{ℕ, _+_, _-_, _≤_, _<_}
 use mathlib.Core.Path.{_≡_}
 use mathlib.Core.Bool.{Bool, true, false, not, _||_}
 use mathlib.Core.List.{List}
 use lib.Dec.{ltb}
 use lib.IntN.{ℤ}
-use lib.ListN.{length, getD}
+use lib.ListN.{length}
 use Rattle.paper.specs.Layer.{allowed, tmax}
 use Rattle.paper.specs.Table.{ofTable}
 use Rattle.paper.specs.Sequence.{_!_, error}
 use Rattle.plate.specs.Datum.{datum}
 use Rattle.plate.specs.Refusal.{Told, decided}
 use Rattle.plate.specs.declared.settings.Settings.{Settings}
+use Rattle.table.specs.Cells.{cellFrom}
 use Rattle.recount.specs.declared.Layer.{Layer}
 use Rattle.recount.specs.declared.Layer.the-variants.{Out, Error}
 use Rattle.recount.specs.Recount.{sequenceChecks}
-
--- the cell of the layer from the datum height h of thickness t
-unfoldable pub cellFrom : ℕ → List ℕ → ℕ → ℕ → ℕ
-cellFrom T table h t = getD table ((h + tmax T - 33) * tmax T + (t - 1)) 0
 
 -- the layer between two datum heights: its difference isn't in T, it ends above N + tmax - 1, or it is over the bound
 unfoldable pub outBetween : ℕ → ℕ → List ℕ → ℕ → ℕ → ℕ → Bool

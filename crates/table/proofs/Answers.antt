@@ -21,7 +21,7 @@ use Rattle.table.specs.declared.Tabled.{Tabled}
 use Rattle.table.specs.declared.Tabled.the-variants.{Refused}
 use Rattle.table.specs.Cells.{firstOut, firstOverfull, firstNotPart}
 use Rattle.table.specs.Tabled.{toldTable, tallyOf}
-use Rattle.table.specs.Calls.{short, outCell, tableRest, clearAnswer, overfullCell, addRest, pairChecks, pairOut, joinRest, partChecks, takeRest}
+use Rattle.table.specs.Calls.{short, outCell, boundChecks, tableRest, clearAnswer, overfullCell, addRest, pairChecks, pairOut, joinRest, partChecks, takeRest}
 
 -- an answer that is a refusal leaves the table as it was
 pub stop : (t : Told Tally) (r : Tabled) (reason : Reason) (place : ℕ) (written held : List ℕ) → r ≡ Refused (record { reason = reason; place = place })
@@ -37,16 +37,16 @@ module _ (N T c : ℕ) (table : List ℕ) where
 
   module _ (room : cells N T ≤ length table) where
     pub rest-many : mostColumns < c → some (record { number = 7; place = 0 }) ≡ first (tableRest N T c table)
-    unfolding tableRest short
+    unfolding tableRest short boundChecks
     rest-many h = simp (le-ltb _ _ room, lt-ltb _ _ h)
 
     module _ (few : c ≤ mostColumns) (at : ℕ) (e : at ≡ firstOut N T c table) where
       pub rest-out : at < cells N T → some (record { number = 6; place = at }) ≡ first (tableRest N T c table)
-      unfolding tableRest short outCell
+      unfolding tableRest short boundChecks outCell
       rest-out h = rw (← e) (simp (le-ltb _ _ room, le-ltb _ _ few, lt-ltb _ _ h))
 
       pub rest-fine : cells N T ≤ at → none ≡ first (tableRest N T c table)
-      unfolding tableRest short outCell
+      unfolding tableRest short boundChecks outCell
       rest-fine h = rw (← e) (simp (le-ltb _ _ room, le-ltb _ _ few, le-ltb _ _ h))
 
   -- ---- clearing

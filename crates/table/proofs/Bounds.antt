@@ -1,27 +1,23 @@
 -- Cells in bounds: what the searches for 6 and 9 tell of every cell where they find none, and that sums and differences then fit.
 -- Assumes nothing.
 use mathlib.Core.Path.{_≡_, refl, sym}
-use mathlib.Core.Bool.{Bool, true, false, _&&_, _||_}
+use mathlib.Core.Bool.{Bool, true, false, _&&_}
 use mathlib.Core.List.{List}
 use mathlib.Core.Option.{none}
 use Prim.Native.Nat.{ℕ, _+_, _-_, _≤_, _<_}
 use native.Mathlib.Nat.{mod-lt}
 use native.Mathlib.Omega.{arith}
-use borrow.Author.Tests.{ltb-false}
+use borrow.Author.Tests.{le-ltb, ltb-false}
 use lib.Dec.{ltb}
 use lib.ListN.{getD}
 use Rattle.lists.specs.Checks.{first}
-use Rattle.lists.proofs.Checks.{first-none}
-use Rattle.lists.proofs.Search.{lowest-before}
+use Rattle.lists.proofs.Checks.{first-none, or-false}
+use Rattle.lists.proofs.Search.{lowest-none, lowest-before}
 use Rattle.paper.specs.Layer.{tmax}
-use Rattle.paper.specs.Table.{cells, limit, thicknessAt}
+use Rattle.paper.specs.Table.{cells, limit, thicknessAt, InBounds, mostColumns}
 use Rattle.table.specs.Cells.{outOfBounds, firstOut, addend, overfull, firstOverfull, notPart, firstNotPart}
-use Rattle.table.specs.Calls.{outCell, pairOut}
+use Rattle.table.specs.Calls.{boundChecks, outCell, pairOut}
 use Rattle.table.proofs.Limits.{limit-le}
-
-or-false : (a b : Bool) → a || b ≡ false → (a ≡ false) × (b ≡ false)
-or-false true b e = absurd (let z : _≡_ {A = ℕ} 0 1 = cc in omega arith)
-or-false false b e = (refl, e)
 
 pub thickness-le : (T i : ℕ) → 1 ≤ tmax T → thicknessAt T i ≤ tmax T
 unfolding thicknessAt
@@ -66,3 +62,31 @@ module _ (N T d : ℕ) (table other : List ℕ) where
   part-le h i l =
       ltb-false _ _
       (or-false (ltb (getD table i 0) (getD other i 0)) (ltb (limit T d (thicknessAt T i)) (getD table i 0 - getD other i 0)) (lowest-before (notPart T d table other) (cells N T) i (omega arith)) .0)
+
+-- ---- and the other way: where every cell is in bounds the searches find none
+
+pub out-fine : (N T c : ℕ) (table : List ℕ) → ((i : ℕ) → i < cells N T → getD table i 0 ≤ limit T c (thicknessAt T i)) → firstOut N T c table ≡ cells N T
+unfolding firstOut outOfBounds
+out-fine N T c table w = lowest-none (outOfBounds T c table) (cells N T) (λ i l. le-ltb (limit T c (thicknessAt T i)) (getD table i 0) (w i l))
+
+-- a table in bounds passes 7 and 6
+pub bounds-fine : (N T c : ℕ) (table : List ℕ) → InBounds N T c table → first (boundChecks N T c table) ≡ none
+unfolding boundChecks outCell
+bounds-fine N T c table b =
+    let e = out-fine N T c table (b .bounded) in
+    simp (le-ltb mostColumns c (b .columns), e, le-ltb (cells N T) (cells N T) (omega arith))
+
+pub overfull-fine : (N T c : ℕ) (table bs : List ℕ) → ((i : ℕ) → i < cells N T → getD table i 0 ≤ limit T c (thicknessAt T i)) → firstOverfull N T c table bs ≡ cells N T
+unfolding firstOverfull overfull outOfBounds
+overfull-fine N T c table bs w = lowest-none (overfull T c table bs) (cells N T) (λ i l. both (ltb 0 (addend T bs i)) _ (le-ltb (limit T c (thicknessAt T i)) (getD table i 0) (w i l)))
+  where
+    both : (a b : Bool) → b ≡ false → a && b ≡ false
+    both true b e = e
+    both false b e = refl
+
+pub part-fine : (N T d : ℕ) (table other : List ℕ) → ((i : ℕ) → i < cells N T → getD other i 0 ≤ getD table i 0)
+    → ((i : ℕ) → i < cells N T → getD table i 0 - getD other i 0 ≤ limit T d (thicknessAt T i)) → firstNotPart N T d table other ≡ cells N T
+unfolding firstNotPart notPart
+part-fine N T d table other u w =
+    lowest-none (notPart T d table other) (cells N T)
+    (λ i l. simp (le-ltb (getD table i 0) (getD other i 0) (u i l), le-ltb (limit T d (thicknessAt T i)) (getD table i 0 - getD other i 0) (w i l)))

@@ -1,22 +1,24 @@
 -- The cells of a row: the cell at the place j of a row has thickness j + 1 and the row's start, so what is tested in a row against the
--- limits is what document 01 asks of the cell's index. Assumes nothing.
+-- limits is what document 01 asks of the cell's index; and the cell of a layer, by the datum height of its start, is document 01's, by cases
+-- on the start's sign. Assumes nothing.
 use mathlib.Core.Path.{_≡_, sym, ap, _∙_}
 use mathlib.Core.Bool.{Bool, true, false, cond, _&&_, _||_}
 use mathlib.Core.List.{List}
-use Prim.Native.Nat.{ℕ, _+_, _-_, _*_, _/_, _≤_, _<_}
+use Prim.Native.Nat.{ℕ, suc, _+_, _-_, _*_, _/_, _≤_, _<_}
 use native.Mathlib.Omega.{arith}
 use lib.Arith.{digits-lt, digits-div, digits-mod}
 use lib.Dec.{ltb}
-use lib.IntN.{ℤ, pos, _+ℤ_, _-ℤ_, +ℤ-comm}
+use lib.IntN.{ℤ, pos, negsuc, _+ℤ_, _-ℤ_, +ℤ-comm}
 use lib.ListN.{getD}
 use Rattle.paper.specs.Layer.{allowed, tmax, share}
-use Rattle.paper.specs.Table.{rows, cells, startAt, thicknessAt, cellOf, limit}
-use Rattle.plate.specs.Datum.{heightOf}
+use Rattle.paper.specs.Table.{rows, cells, startAt, thicknessAt, cellOf, limit, natural, cellAt}
+use Rattle.paper.proofs.Thicknesses.{tmax-le}
+use Rattle.plate.specs.Datum.{datum, heightOf}
 use Rattle.plate.specs.Settings.{Sound}
 use Rattle.plate.specs.declared.settings.Settings.{Settings}
-use Rattle.plate.proofs.Datum.{neg-height, sum-height}
+use Rattle.plate.proofs.Datum.{neg-height, sum-height, natural-sub}
 use Rattle.column.proofs.Shares.{share-le}
-use Rattle.table.specs.Cells.{outOfBounds, addend, overfull, notPart}
+use Rattle.table.specs.Cells.{cellFrom, outOfBounds, addend, overfull, notPart}
 use Rattle.table.specs.Limits.{Limits, above, heaped, apart}
 
 module _ (T m r j : ℕ) (e : m ≡ tmax T) (l : j < m) where
@@ -79,6 +81,21 @@ module _ {s : Settings} (k : Sound s) (r : ℕ) (l : r < s .rows) where
 
   pub cell-fits : (j : ℕ) → j < s .tmax → r * s .tmax + j < 18_368
   cell-fits j u = let i = cell-in j u in omega (arith, k .few-cells)
+
+-- the row of a start
+row : (m : ℕ) (z : ℤ) → 1 ≤ m → m ≤ 32 → natural (z +ℤ pos (m - 1)) ≡ datum z + m - 33
+row m (pos n) l u = omega arith
+row m (negsuc n) l u = natural-sub (m - 1) (suc n) ∙ omega arith
+
+-- the cell of a layer is document 01's
+pub cell-is : (T : ℕ) → 1 ≤ tmax T → (table : List ℕ) (z : ℤ) (t : ℕ) → cellAt T table z t ≡ cellFrom T table (datum z) t
+unfolding cellFrom
+cell-is T l table z t = ap (λ (r : ℕ). getD table (r * tmax T + (t - 1)) 0) (row (tmax T) z l (tmax-le T))
+
+-- where the code reads it: at the row of the height h
+pub cell-read : (T m : ℕ) (table : List ℕ) (r h t : ℕ) → m ≡ tmax T → r ≡ h + m - 33 → getD table (r * m + (t - 1)) 0 ≡ cellFrom T table h t
+unfolding cellFrom
+cell-read T m table r h t e i = rw (i, e)
 
 -- the number of cells is as the settings have it
 pub cells-sound : {s : Settings} → Sound s → cells (s .height) (s .«set») ≡ s .cells

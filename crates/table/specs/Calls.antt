@@ -27,9 +27,13 @@ short N T table number = check 3 (ltb (length table) (cells N T)) number
 unfoldable pub outCell : ℕ → ℕ → ℕ → List ℕ → Check Numbered
 outCell N T c table = check 6 (ltb (firstOut N T c table) (cells N T)) (firstOut N T c table)
 
+-- 7 and 6: a count beyond 1,000,000, or a cell that is not in bounds for it
+unfoldable pub boundChecks : ℕ → ℕ → ℕ → List ℕ → List (Check Numbered)
+boundChecks N T c table = check 7 (ltb mostColumns c) 0 ∷ outCell N T c table ∷ []
+
 -- a table of c columns that a call is handed: 1, 2, 3, 7, 6
 unfoldable pub tableRest : ℕ → ℕ → ℕ → List ℕ → List (Check Numbered)
-tableRest N T c table = short N T table 1 ∷ check 7 (ltb mostColumns c) 0 ∷ outCell N T c table ∷ []
+tableRest N T c table = short N T table 1 ∷ boundChecks N T c table
 
 unfoldable pub tableChecks : ℕ → ℕ → ℕ → List ℕ → List (Check Numbered)
 tableChecks N T c table = settingsChecks N T ++ tableRest N T c table

@@ -1,13 +1,17 @@
--- The cells of a table one by one: which are out of bounds, what a column adds to each, and which are no part of another table's. Cells are
--- named by their index, as document 01's refusals name them. Assumes nothing.
-use Prim.Native.Nat.{ℕ, _-_}
+-- The cells of a table one by one: the cell of a layer; and, named by their index as document 01's refusals name them, which are out of
+-- bounds, what a column adds to each, and which are no part of another table's. Assumes nothing.
+use Prim.Native.Nat.{ℕ, _+_, _-_, _*_}
 use mathlib.Core.Bool.{Bool, _&&_, _||_}
 use mathlib.Core.List.{List}
 use lib.Dec.{ltb}
 use lib.ListN.{getD}
 use Rattle.lists.specs.Search.{lowest}
-use Rattle.paper.specs.Layer.{share}
+use Rattle.paper.specs.Layer.{tmax, share}
 use Rattle.paper.specs.Table.{cells, thicknessAt, cellOf, limit}
+
+-- the cell of the layer from the datum height h of thickness t
+unfoldable pub cellFrom : ℕ → List ℕ → ℕ → ℕ → ℕ
+cellFrom T table h t = getD table ((h + tmax T - 33) * tmax T + (t - 1)) 0
 
 -- cell i is out of bounds for c columns
 unfoldable pub outOfBounds : ℕ → ℕ → List ℕ → ℕ → Bool

@@ -8,7 +8,8 @@ use borrow.Author.Tests.{not-true, not-false}
 use lib.Dec.{leb}
 use Rattle.paper.specs.Layer.{allowed}
 use Rattle.sequence.specs.Rules.{shape}
-use Rattle.plan.specs.Planning.{tableCell, planRules}
+use Rattle.table.specs.Cells.{cellFrom}
+use Rattle.plan.specs.Planning.{planRules}
 use Rattle.plan.proofs.may_use.Statement.{statement}
 use Rattle.plan.proofs.may_use.Tie as tie
 
@@ -17,7 +18,7 @@ module _ (N T bound : ℕ) (table : List ℕ) (h t : ℕ) where
   unfolding planRules shape
   forbidden e = rw e
 
-  within : (x : ℕ) → allowed T t ≡ true → x ≡ tableCell T table h t → leb x bound ≡ planRules N T bound table .may h t
+  within : (x : ℕ) → allowed T t ≡ true → x ≡ cellFrom T table h t → leb x bound ≡ planRules N T bound table .may h t
   unfolding planRules shape
   within x e i = rw (e, i)
 

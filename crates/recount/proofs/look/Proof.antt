@@ -1,6 +1,6 @@
 -- `look` meets its contract: its tests are those of `outBetween`, one after the other, and past them the layer's cell lies in the table.
 -- Assumes nothing.
-use mathlib.Core.Path.{_≡_, sym, _∙_}
+use mathlib.Core.Path.{_≡_, refl, sym, _∙_}
 use mathlib.Core.Bool.{true}
 use Prim.Native.Nat.{ℕ, _+_, _-_, _*_, _<_}
 use native.Mathlib.Omega.{arith}
@@ -9,9 +9,9 @@ use borrow.Author.Tests.{not-true, not-false}
 use lib.ListN.{getD}
 use Rattle.paper.specs.Layer.{allowed}
 use Rattle.paper.proofs.Thicknesses.{allowed-under, allowed-tmax}
-use Rattle.table.proofs.Cells.{cell-in}
-use Rattle.recount.specs.Layers.{cellFrom}
-use Rattle.recount.proofs.Layers.{out-difference, out-high, out-bound, in-bound, cell-read}
+use Rattle.table.specs.Cells.{cellFrom}
+use Rattle.table.proofs.Cells.{cell-in, cell-read}
+use Rattle.recount.proofs.Layers.{out-difference, out-high, out-bound, in-bound}
 use Rattle.recount.proofs.look.Statement.{statement}
 use Rattle.recount.proofs.look.Tie as tie
 
@@ -39,7 +39,7 @@ module _ (c : tie.Else3) where
       (omega (arith, allowed-tmax _ _ (in-set (c .before .before)), k .greatest))
 
   reads : getD (s .args .table .now) at 0 ≡ cellFrom (s .args .s .«set») (s .args .table .now) (s .args .below) (s .args .above - s .args .below)
-  reads = cell-read _ _ _ _ _ (s .pre .0 .greatest)
+  reads = cell-read _ _ _ _ _ _ (s .pre .0 .greatest) refl
 
 returns : tie.Need-returns
 returns c = out-difference _ _ _ _ _ _ (allowed-under _ _ (omega arith))

@@ -1,0 +1,6 @@
+pub mod Boundaries
+pub mod Read
+pub mod Counts
+pub mod Planned
+pub mod Printed
+pub mod Lengths

@@ -1,0 +1,238 @@
+// What the planning program prints for a job file, laid into a lent buffer as far as the buffer goes.
+ghost use mathlib.Core.Path.{_≡_};
+ghost use Prim.Native.Nat.{_+_, _-_, _≤_, _<_, min};
+ghost use lib.ListN.{length, take};
+ghost use Rattle.paper.specs.Sequence.{_!_};
+ghost use Rattle.plate.specs.Refusal.{numberOf};
+ghost use Rattle.text.specs.Sink.{sink, put, laidOver};
+ghost use Rattle.plan.specs.Plan.{sheetsOf};
+ghost use Rattle.job.specs.File.{jobOf};
+ghost use Rattle.report.specs.Lines.{most, refusedLine, headLine, boundaryText, boundariesText, noneLine, sequenceLine, countLines, planText};
+ghost use Rattle.report.specs.Work.{blankTable, blankSequence, blankSheets, sheetLine, sheetsText, plannedText, fileText};
+use job::Load;
+use job::Loaded;
+use job::read_job;
+use plan::plan;
+use plan::read_back;
+use plate::refusal::Answer;
+use plate::refusal::Refusal;
+use text::put_number;
+use text::put_signed;
+use text::put_text;
+
+fn put_refused(out: &mut [u8], number: u32, place: u64) -> usize
+    ensures { λ r. ⌜ sink r (now (out .exit)) ≡ put (refusedLine number place) (sink 0 (now (out .entry))) ⌝ }
+{
+    let at = put_text(out, 0, b"refused ");
+    let at = put_number(out, at, number as u64);
+    let at = put_text(out, at, b" at ");
+    let at = put_number(out, at, place);
+    put_text(out, at, b"\n")
+}
+
+fn put_refusal(out: &mut [u8], refusal: Refusal) -> usize
+    ensures { λ r. ⌜ sink r (now (out .exit)) ≡ put (refusedLine (numberOf (refusal .reason)) (refusal .place)) (sink 0 (now (out .entry))) ⌝ }
+{
+    let reason = refusal.reason;
+    let number = reason.number();
+    put_refused(out, number, refusal.place)
+}
+
+fn put_head(out: &mut [u8], height: u32, columns: u32, counts: u64) -> usize
+    ensures { λ r. ⌜ sink r (now (out .exit)) ≡ put (headLine height columns counts) (sink 0 (now (out .entry))) ⌝ }
+{
+    let at = put_text(out, 0, b"height ");
+    let at = put_number(out, at, height as u64);
+    let at = put_text(out, at, b" columns ");
+    let at = put_number(out, at, columns as u64);
+    let at = put_text(out, at, b" counts ");
+    let at = put_number(out, at, counts);
+    put_text(out, at, b"\n")
+}
+
+// Boundary i, after a space.
+fn put_boundary(out: &mut [u8], at: usize, sequence: &[i32], i: usize) -> usize
+    requires { ⌜ i < length (now sequence) ⌝ }
+    ensures { λ r. ⌜ sink r (now (out .exit)) ≡ put (boundaryText (now (sequence .entry) ! i)) (sink at (now (out .entry))) ⌝ }
+{
+    let at = put_text(out, at, b" ");
+    put_signed(out, at, sequence[i])
+}
+
+// The first `count` of these boundaries.
+fn put_boundaries(out: &mut [u8], at: usize, sequence: &[i32], count: usize) -> usize
+    requires { ⌜ count ≤ length (now sequence) ⌝ }
+    ensures { λ r. ⌜ sink r (now (out .exit)) ≡ put (boundariesText (take count (now (sequence .entry)))) (sink at (now (out .entry))) ⌝ }
+{
+    let mut next = at;
+    let mut i = 0;
+    while i < count {
+        next = put_boundary(out, next, sequence, i);
+        i += 1;
+    }
+    next
+}
+
+fn put_none(out: &mut [u8], at: usize, n: u32) -> usize
+    ensures { λ r. ⌜ sink r (now (out .exit)) ≡ put (noneLine n) (sink at (now (out .entry))) ⌝ }
+{
+    let at = put_number(out, at, n as u64);
+    put_text(out, at, b" none\n")
+}
+
+fn put_sequence(out: &mut [u8], at: usize, n: u32, error: u64, sequence: &[i32]) -> usize
+    requires { ⌜ n < length (now sequence) ⌝ }
+    ensures { λ r. ⌜ sink r (now (out .exit)) ≡ put (sequenceLine n error (take (n + 1) (now (sequence .entry)))) (sink at (now (out .entry))) ⌝ }
+{
+    let at = put_number(out, at, n as u64);
+    let at = put_text(out, at, b" ");
+    let at = put_number(out, at, error);
+    let at = put_boundaries(out, at, sequence, n as usize + 1);
+    put_text(out, at, b"\n")
+}
+
+// The line of a count from 1 to M: read back into `sequence`, and put.
+fn put_read(
+    out: &mut [u8],
+    at: usize,
+    height: u32,
+    set: u32,
+    errors: &[u64],
+    thicknesses: &[u8],
+    n: u32,
+    sequence: &mut [i32],
+) -> usize
+    requires { ⌜ n < length (now sequence) ⌝ }
+    ensures { λ r. ⌜ sink r (now (out .exit)) ≡ put (sheetLine height «set» (now (errors .entry)) (now (thicknesses .entry)) (now (sequence .entry)) n) (sink at (now (out .entry))) ⌝ }
+{
+    let answer = read_back(height, set, errors, thicknesses, n, sequence);
+    match answer {
+        Answer::Done(error) => put_sequence(out, at, n, error, sequence),
+        Answer::Refused(_) => put_none(out, at, n),
+    }
+}
+
+fn put_count(
+    out: &mut [u8],
+    at: usize,
+    height: u32,
+    set: u32,
+    errors: &[u64],
+    thicknesses: &[u8],
+    n: u32,
+) -> usize
+    requires { ⌜ n < 64 ⌝ }
+    ensures { λ r. ⌜ sink r (now (out .exit)) ≡ put (sheetLine height «set» (now (errors .entry)) (now (thicknesses .entry)) blankSequence n) (sink at (now (out .entry))) ⌝ }
+{
+    let mut sequence = [0i32; 64];
+    put_read(out, at, height, set, errors, thicknesses, n, &mut sequence)
+}
+
+// The lines of the counts from 1 on.
+fn put_counts(
+    out: &mut [u8],
+    at: usize,
+    height: u32,
+    set: u32,
+    errors: &[u64],
+    thicknesses: &[u8],
+    counts: u32,
+) -> usize
+    requires { ⌜ counts < 64 ⌝ }
+    ensures { λ r. ⌜ sink r (now (out .exit)) ≡ put (countLines (sheetLine height «set» (now (errors .entry)) (now (thicknesses .entry)) blankSequence) 0 counts) (sink at (now (out .entry))) ⌝ }
+{
+    let mut next = at;
+    let mut n: u32 = 0;
+    while n < counts {
+        n += 1;
+        next = put_count(out, next, height, set, errors, thicknesses, n);
+    }
+    next
+}
+
+// All lines of a plate, from its sheets.
+fn put_sheets(out: &mut [u8], load: Load, counts: u32, errors: &[u64], thicknesses: &[u8]) -> usize
+    requires { ⌜ counts < 64 ⌝ }
+    ensures { λ r. ⌜ sink r (now (out .exit)) ≡ put (sheetsText (load .asked .height) (load .asked .«set») (load .tally .columns) counts (now (errors .entry)) (now (thicknesses .entry))) (sink 0 (now (out .entry))) ⌝ }
+{
+    let asked = load.asked;
+    let tally = load.tally;
+    let at = put_head(out, asked.height, tally.columns, counts as u64);
+    put_counts(
+        out,
+        at,
+        asked.height,
+        asked.set,
+        errors,
+        thicknesses,
+        counts,
+    )
+}
+
+// The text of a job whose table was read: planned in these buffers, of which the list has room for 63 counts.
+fn put_plan(
+    out: &mut [u8],
+    load: Load,
+    table: &[u32],
+    errors: &mut [u64],
+    thicknesses: &mut [u8],
+    list: &mut [u64],
+) -> usize
+    requires { ⌜ length (now list) ≤ 63 ⌝ }
+    ensures { λ r. ⌜ sink r (now (out .exit)) ≡ put (plannedText load (now (table .entry)) (sheetsOf (now (errors .entry)) (now (thicknesses .entry)) (now (list .entry)))) (sink 0 (now (out .entry))) ⌝ }
+{
+    let asked = load.asked;
+    let answer = plan(
+        table,
+        asked.height,
+        asked.set,
+        load.tally,
+        asked.bound,
+        errors,
+        thicknesses,
+        list,
+    );
+    match answer {
+        Answer::Refused(refusal) => put_refusal(out, refusal),
+        Answer::Done(counts) => put_sheets(out, load, counts as u32, errors, thicknesses),
+    }
+}
+
+fn put_load(out: &mut [u8], load: Load, table: &[u32]) -> usize
+    ensures { λ r. ⌜ sink r (now (out .exit)) ≡ put (plannedText load (now (table .entry)) blankSheets) (sink 0 (now (out .entry))) ⌝ }
+{
+    let mut errors = [0u64; 4096];
+    let mut thicknesses = [0u8; 4096];
+    let mut list = [0u64; 63];
+    put_plan(out, load, table, &mut errors, &mut thicknesses, &mut list)
+}
+
+// The text of a file that is read into this table.
+fn put_file(input: &[u8], out: &mut [u8], table: &mut [u32]) -> usize
+    ensures { λ r. ⌜ sink r (now (out .exit)) ≡ put (fileText (jobOf most (now (input .entry))) (now (table .entry))) (sink 0 (now (out .entry))) ⌝ }
+{
+    let loaded = read_job(input, 4096, table);
+    match loaded {
+        Loaded::Refused(refusal) => put_refusal(out, refusal),
+        Loaded::Done(load) => put_load(out, load, table),
+    }
+}
+
+fn put_job(input: &[u8], out: &mut [u8]) -> usize
+    ensures { λ r. ⌜ sink r (now (out .exit)) ≡ put (fileText (jobOf most (now (input .entry))) blankTable) (sink 0 (now (out .entry))) ⌝ }
+{
+    let mut table = [0u32; 4096];
+    put_file(input, out, &mut table)
+}
+
+// What the planning program prints for these bytes, laid into `out` as far as it goes; answers how many bytes were laid. No text is longer
+// than 131,072 bytes.
+pub fn plan_text(input: &[u8], out: &mut [u8]) -> usize
+    ensures { λ r. ⌜ (r ≡ min (length (planText (now (input .entry)))) (length (now (out .entry)))) × (now (out .exit) ≡ laidOver (planText (now (input .entry))) (now (out .entry))) ⌝ }
+    ensures { λ r. ⌜ (131072 ≤ length (now (out .entry)) → take r (now (out .exit)) ≡ planText (now (input .entry))) ⌝ }
+{
+    if 4096 < input.len() {
+        return put_refused(out, 17, 0);
+    }
+    put_job(input, out)
+}
