@@ -1,11 +1,11 @@
 // Plates of the greatest height, in buffers for the greatest sizes: both sides of the height's limit, and one plate at full size.
+use crate::lend::part16;
 use crate::limits::BOUNDARIES;
+use crate::show;
+use crate::small::NO_BOUND;
+use crate::small::answered;
 use crate::worked::Job;
 use crate::worked::count_line;
-use bench::lend::part16;
-use bench::show;
-use bench::small::NO_BOUND;
-use bench::small::answered;
 use plan::plan;
 use recount::recount;
 use table::Tabled;
@@ -161,7 +161,7 @@ fn height_trial(height: u32, top: u16, n: u32) {
     show::text(b"\n");
 }
 
-pub fn heights() {
+pub(crate) fn heights() {
     height_trial(0, 1, 1);
     height_trial(1, 1, 1);
     height_trial(512, 512, 257);
@@ -169,7 +169,7 @@ pub fn heights() {
 }
 
 // Both sides of the limit on the number of boundaries, and on a boundary, at the greatest height.
-pub fn boundaries() {
+pub(crate) fn boundaries() {
     let table = cleared(512);
     added(table, 512, part16(&BOUNDARIES, 64));
     added(table, 512, part16(&BOUNDARIES, 65));
@@ -212,7 +212,7 @@ fn full_counts(job: Job, table: &[u32], errors: &[u64], thicknesses: &[u8]) {
     }
 }
 
-pub fn full() {
+pub(crate) fn full() {
     let table = full_table();
     let mut errors = [0u64; 330625];
     let mut thicknesses = [0u8; 330625];

@@ -1,13 +1,13 @@
 // Both sides of the limits on one column, one boundary and one sequence; and document 01's traps in the source.
-use bench::lend::part16;
-use bench::lend::show_heights;
-use bench::show;
-use bench::single::lifted;
-use bench::single::pictured;
-use bench::small::NO_BOUND;
-use bench::small::answered;
-use bench::small::table_ab;
-use bench::small::table_of;
+use crate::answers::lifted;
+use crate::answers::pictured;
+use crate::lend::part16;
+use crate::lend::show_heights;
+use crate::show;
+use crate::small::NO_BOUND;
+use crate::small::answered;
+use crate::small::table_ab;
+use crate::small::table_of;
 use column::picture;
 use recount::recount;
 use table::Tally;
@@ -34,7 +34,7 @@ fn motor_lines(step: u32) {
     }
 }
 
-pub fn motors() {
+pub(crate) fn motors() {
     let mut i = 0;
     while i < 6 {
         motor_lines(STEPS[i]);
@@ -166,7 +166,7 @@ fn picture_thicknesses() {
     }
 }
 
-pub fn pictures() {
+pub(crate) fn pictures() {
     picture_heights();
     picture_boundaries();
     picture_counts();
@@ -203,7 +203,7 @@ fn layer_ends() {
     trap(&[1, 4], 4, 2, 19);
 }
 
-pub fn traps() {
+pub(crate) fn traps() {
     ties();
     layer_ends();
 }
@@ -239,7 +239,7 @@ fn far_off() {
     sequence_line(&[0, -2147483648]);
 }
 
-pub fn ends() {
+pub(crate) fn ends() {
     starts();
     tops();
     far_off();

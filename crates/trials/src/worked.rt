@@ -1,15 +1,15 @@
 // The plate that document 01 works in full: each column planned alone, and both planned from joined tables.
-use bench::lend::part_signed;
-use bench::lend::same32;
-use bench::lend::show_heights;
-use bench::lend::show64;
-use bench::show;
-use bench::small::NO_BOUND;
-use bench::small::answered;
-use bench::small::table_a;
-use bench::small::table_ab;
-use bench::small::table_b;
-use bench::small::tabled;
+use crate::lend::part_signed;
+use crate::lend::same32;
+use crate::lend::show_heights;
+use crate::lend::show64;
+use crate::show;
+use crate::small::NO_BOUND;
+use crate::small::answered;
+use crate::small::table_a;
+use crate::small::table_ab;
+use crate::small::table_b;
+use crate::small::tabled;
 use plan::plan;
 use plan::read_back;
 use plate::refusal::Answer;
@@ -27,7 +27,7 @@ pub struct Job {
 }
 
 // The sequence of a count, and its error by a recount.
-pub fn count_line(job: Job, table: &[u32], errors: &[u64], thicknesses: &[u8], n: u32) {
+pub(crate) fn count_line(job: Job, table: &[u32], errors: &[u64], thicknesses: &[u8], n: u32) {
     let mut out = [7i32; 600];
     show::text(b"count");
     show::next32(n);
@@ -108,7 +108,7 @@ fn parted(mut table: [u32; 96]) {
 }
 
 // P7 to P12: A alone, B alone, and both; with bounds 0 and 1.
-pub fn worked() {
+pub(crate) fn worked() {
     show::text(b"A:");
     counts(&table_a(), 1, NO_BOUND);
     show::text(b"B:");
