@@ -1,10 +1,34 @@
-// The answers of the calls on one column and on one boundary, as lines.
+// The answers of the calls, as lines or parts of them.
 use crate::show;
 use column::Pictured;
 use motor::Lifted;
 use motor::motor_height;
+use plate::refusal::Answer;
+use table::Tabled;
 
-pub(crate) fn pictured(answer: Pictured) {
+// The answer of a call that answers one number.
+pub(crate) fn answered(answer: Answer) {
+    match answer {
+        Answer::Refused(refusal) => show::refusal(refusal),
+        Answer::Done(number) => {
+            show::text(b" done");
+            show::next(number);
+        }
+    }
+}
+
+// The answer of a call on a table: its column count.
+pub(crate) fn tallied(answer: Tabled) {
+    match answer {
+        Tabled::Refused(refusal) => show::refusal(refusal),
+        Tabled::Done(tally) => {
+            show::text(b" done");
+            show::next32(tally.columns);
+        }
+    }
+}
+
+pub(crate) fn picture_told(answer: Pictured) {
     match answer {
         Pictured::Refused(refusal) => show::refusal(refusal),
         Pictured::Done(judged) => {

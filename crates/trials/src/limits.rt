@@ -1,16 +1,16 @@
 // Both sides of the limits on one column, one boundary and one sequence; and document 01's traps in the source.
+use crate::answers::answered;
 use crate::answers::lifted;
-use crate::answers::pictured;
+use crate::answers::picture_told;
+use crate::calls::Job;
+use crate::calls::pictured;
+use crate::calls::recounted;
 use crate::lend::part16;
 use crate::lend::show_heights;
 use crate::show;
-use crate::small::NO_BOUND;
-use crate::small::answered;
+use crate::small::job_of;
 use crate::small::table_ab;
 use crate::small::table_of;
-use column::picture;
-use recount::recount;
-use table::Tally;
 
 fn motor_line(step: u32, z: i32) {
     show::text(b"motor step");
@@ -42,75 +42,16 @@ pub(crate) fn motors() {
     }
 }
 
-// A column of so many boundaries 0, 1, 2 and so on.
-pub const BOUNDARIES: [u16; 66] = [
-    0,
-    1,
-    2,
-    3,
-    4,
-    5,
-    6,
-    7,
-    8,
-    9,
-    10,
-    11,
-    12,
-    13,
-    14,
-    15,
-    16,
-    17,
-    18,
-    19,
-    20,
-    21,
-    22,
-    23,
-    24,
-    25,
-    26,
-    27,
-    28,
-    29,
-    30,
-    31,
-    32,
-    33,
-    34,
-    35,
-    36,
-    37,
-    38,
-    39,
-    40,
-    41,
-    42,
-    43,
-    44,
-    45,
-    46,
-    47,
-    48,
-    49,
-    50,
-    51,
-    52,
-    53,
-    54,
-    55,
-    56,
-    57,
-    58,
-    59,
-    60,
-    61,
-    62,
-    63,
-    64,
-    65,
-];
+// The boundaries 0, 1, 2 and so on.
+pub(crate) fn rising() -> [u16; 66] {
+    let mut column = [0u16; 66];
+    let mut i = 0;
+    while i < 66 {
+        column[i] = i as u16;
+        i += 1;
+    }
+    column
+}
 
 fn picture_line(column: &[u16], height: u32, start: i32, thickness: u32) {
     show::text(b"picture of");
@@ -121,29 +62,38 @@ fn picture_line(column: &[u16], height: u32, start: i32, thickness: u32) {
     show::next_height(start);
     show::next32(thickness);
     show::text(b":");
-    pictured(picture(column, height, 6, start, thickness));
+    picture_told(pictured(column, Job::of(height, 6, 1), start, thickness));
+}
+
+// A column of two boundaries.
+fn pair_line(from: u16, to: u16, height: u32, start: i32, thickness: u32) {
+    picture_line(&[from, to], height, start, thickness);
 }
 
 // Both sides of the limits on the height, on a boundary, on the number of boundaries, on the start and on the thickness.
 fn picture_heights() {
-    picture_line(&[0, 1], 0, 0, 2);
-    picture_line(&[0, 1], 1, 0, 2);
-    picture_line(&[0, 512], 512, 511, 3);
-    picture_line(&[0, 512], 513, 511, 3);
+    pair_line(0, 1, 0, 0, 2);
+    pair_line(0, 1, 1, 0, 2);
+    pair_line(0, 512, 512, 511, 3);
+    pair_line(0, 512, 513, 511, 3);
 }
 
 fn picture_boundaries() {
-    picture_line(&[0, 513], 512, 511, 3);
-    picture_line(&[0, 4], 4, 3, 3);
-    picture_line(&[0, 5], 4, 3, 3);
-    picture_line(&[2, 2], 4, 0, 3);
+    pair_line(0, 513, 512, 511, 3);
+    pair_line(0, 4, 4, 3, 3);
+    pair_line(0, 5, 4, 3, 3);
+    pair_line(2, 2, 4, 0, 3);
+}
+
+fn picture_count(boundaries: usize, start: i32) {
+    picture_line(part16(&rising(), boundaries), 70, start, 3);
 }
 
 fn picture_counts() {
-    picture_line(part16(&BOUNDARIES, 0), 70, 0, 3);
-    picture_line(part16(&BOUNDARIES, 64), 70, 62, 3);
-    picture_line(part16(&BOUNDARIES, 65), 70, 62, 3);
-    picture_line(part16(&BOUNDARIES, 66), 70, 62, 3);
+    picture_count(0, 0);
+    picture_count(64, 62);
+    picture_count(65, 62);
+    picture_count(66, 62);
 }
 
 const STARTS: [i32; 6] = [-3, -2, 5, 6, -2147483648, 2147483647];
@@ -151,7 +101,7 @@ const STARTS: [i32; 6] = [-3, -2, 5, 6, -2147483648, 2147483647];
 fn picture_starts() {
     let mut i = 0;
     while i < 6 {
-        picture_line(&[1, 4], 4, STARTS[i], 3);
+        pair_line(1, 4, 4, STARTS[i], 3);
         i += 1;
     }
 }
@@ -161,7 +111,7 @@ const THICKNESSES: [u32; 7] = [0, 1, 2, 3, 4, 34, 4294967295];
 fn picture_thicknesses() {
     let mut i = 0;
     while i < 7 {
-        picture_line(&[1, 4], 4, 0, THICKNESSES[i]);
+        pair_line(1, 4, 4, 0, THICKNESSES[i]);
         i += 1;
     }
 }
@@ -185,22 +135,27 @@ fn trap(column: &[u16], start: i32, thickness: u32, cell: usize) {
     picture_line(column, 4, start, thickness);
 }
 
+// A layer of document 01's column A.
+fn trap_a(start: i32, thickness: u32, cell: usize) {
+    trap(&[1, 4], start, thickness, cell);
+}
+
 // Document 01, 'Traps in the source', P4, P5 and P6: a tie, the majority, no boundary.
 fn ties() {
-    trap(&[1, 4], 0, 2, 7);
+    trap_a(0, 2, 7);
     trap(&[1, 2], 0, 3, 8);
-    trap(&[1, 4], 2, 3, 14);
-    trap(part16(&BOUNDARIES, 0), 0, 2, 7);
+    trap_a(2, 3, 14);
+    trap(part16(&[0], 0), 0, 2, 7);
 }
 
 // A boundary at a layer's end is not in it, and past the last boundary all is outside.
 fn layer_ends() {
-    trap(&[1, 4], 2, 2, 13);
-    trap(&[1, 4], 1, 3, 11);
-    trap(&[1, 4], -1, 2, 4);
-    trap(&[1, 4], 3, 2, 16);
-    trap(&[1, 4], 3, 3, 17);
-    trap(&[1, 4], 4, 2, 19);
+    trap_a(2, 2, 13);
+    trap_a(1, 3, 11);
+    trap_a(-1, 2, 4);
+    trap_a(3, 2, 16);
+    trap_a(3, 3, 17);
+    trap_a(4, 2, 19);
 }
 
 pub(crate) fn traps() {
@@ -213,7 +168,7 @@ fn sequence_line(sequence: &[i32]) {
     show::text(b"sequence");
     show_heights(sequence, sequence.len());
     show::text(b":");
-    answered(recount(&table_ab(), 4, 6, Tally { columns: 2 }, NO_BOUND, sequence));
+    answered(recounted(&table_ab(), job_of(2), sequence));
     show::text(b"\n");
 }
 

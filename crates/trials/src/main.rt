@@ -1,6 +1,7 @@
 // Runs the compiled calls of document 01 with good input, with each refusal, and with every two refusals that can hold together; on both
 // sides of its limits, in the traps that it names, on the plate that it works in full, from joined tables, and on one plate at full size.
 mod answers;
+mod calls;
 mod large;
 mod lend;
 mod limits;

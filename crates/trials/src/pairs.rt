@@ -29,11 +29,17 @@ fn name(call: Call) {
         Call::Add => show::text(b"add"),
         Call::Join => show::text(b"join"),
         Call::Take => show::text(b"take off"),
+        _ => later_name(call),
+    }
+}
+
+fn later_name(call: Call) {
+    match call {
         Call::Plan => show::text(b"plan"),
         Call::Read => show::text(b"read back"),
         Call::Recount => show::text(b"recount"),
         Call::Picture => show::text(b"picture"),
-        Call::Motor => show::text(b"motor"),
+        _ => show::text(b"motor"),
     }
 }
 
@@ -116,16 +122,7 @@ fn good(call: Call, longer: bool) {
     } else {
         show::text(b" exact:");
     }
-    trial(
-        call,
-        Pair {
-            first: 0,
-            second: 0,
-            longer,
-            columns: 2,
-            more: 1,
-        },
-    );
+    trial(call, Pair::good(longer));
 }
 
 fn tried(call: Call, most: u32) {

@@ -1,7 +1,8 @@
-// What the trials print: words, numbers, refusals, and whether lent memory was kept.
+// What the trials print: words, numbers, heights, refusals, and whether lent memory was kept.
+use crate::lend::part8;
 use libc::STDOUT_FILENO;
-use plate::height::datum_of;
 use plate::refusal::Refusal;
+use text::put_signed;
 
 pub(crate) fn text(words: &[u8]) {
     io::write_all(STDOUT_FILENO, words);
@@ -17,10 +18,6 @@ pub(crate) fn next32(x: u32) {
     next(x as u64);
 }
 
-pub(crate) fn next8(x: u8) {
-    next(x as u64);
-}
-
 // An error, or that there is none.
 pub(crate) fn entry(x: u64) {
     if x == 18446744073709551615 {
@@ -30,15 +27,11 @@ pub(crate) fn entry(x: u64) {
     }
 }
 
-// A height; every one under -31 is shown as -32.
+// A height with its sign.
 pub(crate) fn next_height(z: i32) {
-    let h = datum_of(z);
-    if h < 32 {
-        text(b" -");
-        io::print_decimal(STDOUT_FILENO, (32 - h) as u64);
-    } else {
-        next((h - 32) as u64);
-    }
+    let mut shown = [b' '; 12];
+    let end = put_signed(&mut shown, 1, z);
+    text(part8(&shown, end));
 }
 
 pub(crate) fn refusal(refusal: Refusal) {

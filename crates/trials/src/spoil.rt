@@ -1,5 +1,7 @@
 // Spoilers: a good input of a call with up to two things spoiled in it. The spoilers of a call are numbered in the order in which
 // document 01 names what they break.
+use crate::calls::Job;
+
 pub struct Pair {
     // Two spoilers; 0 spoils nothing.
     pub first: u32,
@@ -31,6 +33,17 @@ impl Pair {
             longer: false,
             columns,
             more,
+        }
+    }
+
+    // Nothing spoiled, in buffers of the stated sizes or in longer ones.
+    pub(crate) fn good(longer: bool) -> Self {
+        Pair {
+            first: 0,
+            second: 0,
+            longer,
+            columns: 2,
+            more: 1,
         }
     }
 
@@ -82,6 +95,11 @@ impl Pair {
             return bad;
         }
         good
+    }
+
+    // The job of so many columns: spoiler 1 by the height, 2 by the thickness set.
+    pub(crate) fn job(self, columns: u32) -> Job {
+        Job::of(self.pick(1, 0, 4), self.pick(2, 0, 6), columns)
     }
 
     // How much of a buffer is lent where so much is stated: one less by spoiler k, the whole of it where it is longer.

@@ -1,17 +1,18 @@
 -- The loop ends with the last count. Assumes nothing.
-use borrow.Author.Needs.{needs}
+use lib.ListN.{length}
 use Prim.Native.Nat.{_-_}
-use Rattle.trials.proofs.large.full_counts.Statement.{statement}
-use Rattle.trials.proofs.large.full_counts.Tie as tie
+use borrow.Author.Needs.{needs}
+use Rattle.trials.proofs.large.count_lines.Statement.{statement}
+use Rattle.trials.proofs.large.count_lines.Tie as tie
 
 abbrev Inv-loop : tie.InvT-loop
-Inv-loop job table errors thicknesses i₀ i = Unit {0}
+Inv-loop job table errors thicknesses counts i₀ i = Unit {0}
 
 abbrev μ-loop : tie.MeasureT-loop
-μ-loop job table errors thicknesses i₀ i = 8 - i
+μ-loop job table errors thicknesses counts i₀ i = length counts - i
 
-pub full-counts-spec : {M : Type 1} → statement M
-full-counts-spec =
+pub count-lines-spec : {M : Type 1} → statement M
+count-lines-spec =
     tie.close
     (tie.spec
     Inv-loop
