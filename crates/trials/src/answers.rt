@@ -6,14 +6,16 @@ use motor::motor_height;
 use plate::refusal::Answer;
 use table::Tabled;
 
+fn done(number: u64) {
+    show::text(b" done");
+    show::next(number);
+}
+
 // The answer of a call that answers one number.
 pub(crate) fn answered(answer: Answer) {
     match answer {
         Answer::Refused(refusal) => show::refusal(refusal),
-        Answer::Done(number) => {
-            show::text(b" done");
-            show::next(number);
-        }
+        Answer::Done(number) => done(number),
     }
 }
 
@@ -21,26 +23,25 @@ pub(crate) fn answered(answer: Answer) {
 pub(crate) fn tallied(answer: Tabled) {
     match answer {
         Tabled::Refused(refusal) => show::refusal(refusal),
-        Tabled::Done(tally) => {
-            show::text(b" done");
-            show::next32(tally.columns);
-        }
+        Tabled::Done(tally) => done(tally.columns as u64),
     }
+}
+
+fn picture_done(filled: bool, share: u32) {
+    if filled {
+        show::text(b" filled");
+    } else {
+        show::text(b" unfilled");
+    }
+    show::next32(share);
 }
 
 pub(crate) fn picture_told(answer: Pictured) {
     match answer {
         Pictured::Refused(refusal) => show::refusal(refusal),
-        Pictured::Done(judged) => {
-            if judged.filled {
-                show::text(b" filled");
-            } else {
-                show::text(b" unfilled");
-            }
-            show::next32(judged.share);
-        }
+        Pictured::Done(judged) => picture_done(judged.filled, judged.share),
     }
-    show::text(b"\n");
+    show::end();
 }
 
 // The f32 whose eightfold is z times the step, by its bits.
@@ -52,5 +53,5 @@ pub(crate) fn lifted(step: u32, z: i32) {
             show::next32(f32::to_bits(height));
         }
     }
-    show::text(b"\n");
+    show::end();
 }

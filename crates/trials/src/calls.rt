@@ -50,7 +50,7 @@ pub(crate) fn add(table: &mut [u32], job: Job, column: &[u16]) -> Tabled {
     add_column(table, job.height, job.set, job.tally(), column)
 }
 
-pub(crate) fn join(table: &mut [u32], job: Job, other: &[u32], second: Job) -> Tabled {
+fn join(table: &mut [u32], job: Job, other: &[u32], second: Job) -> Tabled {
     join_tables(
         table,
         job.height,
@@ -63,7 +63,7 @@ pub(crate) fn join(table: &mut [u32], job: Job, other: &[u32], second: Job) -> T
     )
 }
 
-pub(crate) fn take(table: &mut [u32], job: Job, other: &[u32], second: Job) -> Tabled {
+fn take(table: &mut [u32], job: Job, other: &[u32], second: Job) -> Tabled {
     take_off(
         table,
         job.height,
@@ -111,4 +111,12 @@ pub(crate) fn recounted(table: &[u32], job: Job, sequence: &[i32]) -> Answer {
 
 pub(crate) fn pictured(column: &[u16], job: Job, start: i32, thickness: u32) -> Pictured {
     picture(column, job.height, job.set, start, thickness)
+}
+
+// The second joined into the first, or taken off it.
+pub(crate) fn paired(off: bool, table: &mut [u32], job: Job, other: &[u32], second: Job) -> Tabled {
+    if off {
+        return take(table, job, other, second);
+    }
+    join(table, job, other, second)
 }

@@ -4,72 +4,25 @@ use crate::answers::tallied;
 use crate::calls::Job;
 use crate::calls::add;
 use crate::calls::clear;
-use crate::calls::join;
-use crate::calls::planned;
+use crate::calls::paired;
 use crate::calls::recounted;
-use crate::calls::take;
-use crate::lend::fill8;
+use crate::digest::show_digest32;
 use crate::lend::fill32;
-use crate::lend::fill64;
 use crate::lend::part16;
 use crate::limits::rising;
+use crate::plans::plan_trial;
 use crate::show;
-use crate::worked::count_line;
-use plate::refusal::Answer;
 use table::Tabled;
-
-// A digest with one number more.
-fn mixed(digest: u64, x: u64) -> u64 {
-    (digest % 65521 * 31 + x % 65521 + 1) % 65521
-}
-
-fn mixed32(digest: u64, x: u32) -> u64 {
-    mixed(digest, x as u64)
-}
-
-fn mixed8(digest: u64, x: u8) -> u64 {
-    mixed(digest, x as u64)
-}
-
-fn show_digest32(buffer: &[u32]) {
-    let mut digest = 0;
-    let mut i = 0;
-    while i < buffer.len() {
-        digest = mixed32(digest, buffer[i]);
-        i += 1;
-    }
-    show::next(digest);
-}
-
-fn show_digest64(buffer: &[u64]) {
-    let mut digest = 0;
-    let mut i = 0;
-    while i < buffer.len() {
-        digest = mixed(digest, buffer[i]);
-        i += 1;
-    }
-    show::next(digest);
-}
-
-fn show_digest8(buffer: &[u8]) {
-    let mut digest = 0;
-    let mut i = 0;
-    while i < buffer.len() {
-        digest = mixed8(digest, buffer[i]);
-        i += 1;
-    }
-    show::next(digest);
-}
 
 // The end of a line: the answer of a call on a table, and a digest of its buffer.
 fn table_told(answer: Tabled, table: &[u32]) {
     tallied(answer);
     show::text(b", digest");
     show_digest32(table);
-    show::text(b"\n");
+    show::end();
 }
 
-// A table cleared, with a column more, with another joined in, and with it taken off again.
+// A table cleared, and one with a column more.
 fn cleared(table: &mut [u32], job: Job) {
     fill32(table, 77);
     show::text(b"clear:");
@@ -80,18 +33,6 @@ fn cleared(table: &mut [u32], job: Job) {
 fn added(table: &mut [u32], job: Job, column: &[u16]) {
     show::text(b"add:");
     let answer = add(table, job, column);
-    table_told(answer, table);
-}
-
-fn joined(table: &mut [u32], job: Job, other: &[u32], second: Job) {
-    show::text(b"join:");
-    let answer = join(table, job, other, second);
-    table_told(answer, table);
-}
-
-fn parted(table: &mut [u32], job: Job, other: &[u32], second: Job) {
-    show::text(b"take off:");
-    let answer = take(table, job, other, second);
     table_told(answer, table);
 }
 
@@ -106,10 +47,23 @@ fn one_column(table: &mut [u32], height: u32, column: &[u16]) {
     added(table, job_at(height, 0), column);
 }
 
-// A second table joined into the first, and taken off again.
+// The end of a line: a second table of one column joined into the first, or taken off it.
+fn paired_line(off: bool, height: u32, columns: u32, table: &mut [u32], other: &[u32]) {
+    let answer = paired(
+        off,
+        table,
+        job_at(height, columns),
+        other,
+        job_at(height, 1),
+    );
+    table_told(answer, table);
+}
+
 fn join_and_part(height: u32, table: &mut [u32], other: &[u32]) {
-    joined(table, job_at(height, 1), other, job_at(height, 1));
-    parted(table, job_at(height, 2), other, job_at(height, 1));
+    show::text(b"join:");
+    paired_line(false, height, 1, table, other);
+    show::text(b"take off:");
+    paired_line(true, height, 2, table, other);
 }
 
 // The calls on tables at a height, for a column that reaches it.
@@ -119,70 +73,24 @@ fn height_tables(height: u32, top: u16, table: &mut [u32], other: &mut [u32]) {
     join_and_part(height, table, other);
 }
 
-// The end of a line: the answer of a plan, and a digest of all that it fills.
-fn plan_told(answer: Answer, errors: &[u64], thicknesses: &[u8], list: &[u64]) {
-    answered(answer);
-    show::text(b", digests");
-    show_digest64(errors);
-    show_digest8(thicknesses);
-    show_digest64(list);
-    show::text(b"\n");
+fn height_heading(height: u32) {
+    show::text(b"height");
+    show::next32(height);
+    show::end();
 }
 
-fn plan_line(
-    job: Job,
-    table: &[u32],
-    errors: &mut [u64],
-    thicknesses: &mut [u8],
-    list: &mut [u64],
-) {
-    fill64(errors, 7);
-    fill8(thicknesses, 17);
-    fill64(list, 5);
-    show::text(b"plan:");
-    let answer = planned(table, job, errors, thicknesses, list);
-    plan_told(answer, errors, thicknesses, list);
-}
-
-fn count_lines(job: Job, table: &[u32], errors: &[u64], thicknesses: &[u8], counts: &[u32]) {
-    let mut i = 0;
-    while i < counts.len() {
-        count_line(job, table, errors, thicknesses, counts[i]);
-        i += 1;
-    }
-}
-
-// A plan in lent sheets, and some counts read back from them.
-fn plan_lent(
-    job: Job,
-    table: &[u32],
-    errors: &mut [u64],
-    thicknesses: &mut [u8],
-    list: &mut [u64],
-    counts: &[u32],
-) {
-    plan_line(job, table, errors, thicknesses, list);
-    count_lines(job, table, errors, thicknesses, counts);
-}
-
-// The same in sheets and a list for the full plate.
-fn plan_trial(job: Job, table: &[u32], counts: &[u32]) {
-    let mut errors = [0u64; 330625];
-    let mut thicknesses = [0u8; 330625];
-    let mut list = [0u64; 574];
-    plan_lent(job, table, &mut errors, &mut thicknesses, &mut list, counts);
+fn recount_line(height: u32, table: &[u32]) {
+    show::text(b"recount -1 1:");
+    answered(recounted(table, job_at(height, 1), &[-1, 1]));
+    show::end();
 }
 
 // Every call at a height.
 fn height_lent(height: u32, top: u16, n: u32, table: &mut [u32], other: &mut [u32]) {
-    show::text(b"height");
-    show::next32(height);
-    show::text(b"\n");
+    height_heading(height);
     height_tables(height, top, table, other);
     plan_trial(job_at(height, 1), table, &[n]);
-    show::text(b"recount -1 1:");
-    answered(recounted(table, job_at(height, 1), &[-1, 1]));
-    show::text(b"\n");
+    recount_line(height, table);
 }
 
 fn height_trial(height: u32, top: u16, n: u32) {
@@ -204,11 +112,14 @@ fn column_trial(column: &[u16]) {
     one_column(&mut table, 512, column);
 }
 
+fn rising_trial(boundaries: usize) {
+    column_trial(part16(&rising(), boundaries));
+}
+
 pub(crate) fn boundaries() {
-    let column = rising();
-    column_trial(part16(&column, 64));
-    column_trial(part16(&column, 65));
-    column_trial(part16(&column, 66));
+    rising_trial(64);
+    rising_trial(65);
+    rising_trial(66);
     column_trial(&[0, 512]);
     column_trial(&[0, 513]);
 }
@@ -222,11 +133,14 @@ fn full_table(table: &mut [u32]) {
     cleared(table, full_job(0));
     added(table, full_job(0), &[0, 512]);
     added(table, full_job(1), &[3, 77, 140, 141, 300, 511]);
-    added(table, full_job(2), &[17, 200, 256, 400]);
 }
 
-fn fuller_table(table: &mut [u32]) {
+fn full_more(table: &mut [u32]) {
+    added(table, full_job(2), &[17, 200, 256, 400]);
     added(table, full_job(3), &[31, 33, 63, 65, 95, 97, 127, 129]);
+}
+
+fn full_most(table: &mut [u32]) {
     added(table, full_job(4), &[100, 101, 250, 499]);
     added(table, full_job(5), part16(&rising(), 64));
 }
@@ -234,7 +148,8 @@ fn fuller_table(table: &mut [u32]) {
 // Some counts of the full plate, which has none of fewer than 16 layers.
 fn full_lent(table: &mut [u32]) {
     full_table(table);
-    fuller_table(table);
+    full_more(table);
+    full_most(table);
     plan_trial(full_job(6), table, &[15, 16, 17, 24, 40, 100, 574, 575]);
 }
 

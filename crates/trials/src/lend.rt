@@ -76,20 +76,8 @@ fn wide(x: u8) -> u64 {
     x as u64
 }
 
-fn mark64(base: usize, i: usize) -> u64 {
-    wide(mark(base, i))
-}
-
 fn wide_cell(x: u32) -> u64 {
     x as u64
-}
-
-fn mark32(base: usize, i: usize) -> u32 {
-    mark(base, i) as u32
-}
-
-fn mark_signed(base: usize, i: usize) -> i32 {
-    mark(base, i) as i32
 }
 
 pub(crate) fn fill8(buffer: &mut [u8], base: usize) {
@@ -103,7 +91,7 @@ pub(crate) fn fill8(buffer: &mut [u8], base: usize) {
 pub(crate) fn fill32(buffer: &mut [u32], base: usize) {
     let mut i = 0;
     while i < buffer.len() {
-        buffer[i] = mark32(base, i);
+        buffer[i] = mark(base, i) as u32;
         i += 1;
     }
 }
@@ -111,7 +99,7 @@ pub(crate) fn fill32(buffer: &mut [u32], base: usize) {
 pub(crate) fn fill64(buffer: &mut [u64], base: usize) {
     let mut i = 0;
     while i < buffer.len() {
-        buffer[i] = mark64(base, i);
+        buffer[i] = mark(base, i) as u64;
         i += 1;
     }
 }
@@ -119,7 +107,7 @@ pub(crate) fn fill64(buffer: &mut [u64], base: usize) {
 pub(crate) fn fill_signed(buffer: &mut [i32], base: usize) {
     let mut i = 0;
     while i < buffer.len() {
-        buffer[i] = mark_signed(base, i);
+        buffer[i] = mark(base, i) as i32;
         i += 1;
     }
 }

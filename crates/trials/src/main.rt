@@ -2,10 +2,12 @@
 // sides of its limits, in the traps that it names, on the plate that it works in full, from joined tables, and on one plate at full size.
 mod answers;
 mod calls;
+mod digest;
 mod large;
 mod lend;
 mod limits;
 mod pairs;
+mod plans;
 mod recounts;
 mod sheets;
 mod show;
@@ -17,15 +19,25 @@ mod worked;
 
 fn refusals() {
     pairs::every_pair();
-    pairs::tallies();
+    pairs::add_tallies();
+    pairs::handed_tallies();
+    pairs::join_tallies();
+    pairs::take_tallies();
     tables::overlooked();
 }
 
 fn limits_and_traps() {
-    limits::ends();
+    limits::starts();
+    limits::tops();
+    limits::far_off();
     limits::motors();
-    limits::pictures();
-    limits::traps();
+    limits::picture_heights();
+    limits::picture_boundaries();
+    limits::picture_counts();
+    limits::picture_starts();
+    limits::picture_thicknesses();
+    limits::ties();
+    limits::layer_ends();
 }
 
 fn main() {

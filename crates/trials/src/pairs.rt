@@ -82,16 +82,20 @@ fn apart(call: Call, p: Pair) -> bool {
     }
 }
 
+fn numbers(first: u32, second: u32) {
+    show::next32(first);
+    show::text(b" and");
+    show::next32(second);
+    show::colon();
+}
+
 fn line(call: Call, first: u32, second: u32) {
     let p = Pair::of(first, second);
     if apart(call, p) {
         return;
     }
     name(call);
-    show::next32(p.first);
-    show::text(b" and");
-    show::next32(p.second);
-    show::text(b":");
+    numbers(first, second);
     trial(call, p);
 }
 
@@ -135,22 +139,19 @@ fn tried(call: Call, most: u32) {
 fn tally(call: Call, columns: u32, more: u32) {
     name(call);
     show::text(b" of");
-    show::next32(columns);
-    show::text(b" and");
-    show::next32(more);
-    show::text(b":");
+    numbers(columns, more);
     trial(call, Pair::tallied(columns, more));
 }
 
 // Both sides of the limit on columns: adding to a table, handing it over, joining, taking off; and counts too small for the cells.
-fn add_tallies() {
+pub(crate) fn add_tallies() {
     tally(Call::Add, 999999, 1);
     tally(Call::Add, 1000000, 1);
     tally(Call::Add, 1000001, 1);
     tally(Call::Add, 4294967295, 1);
 }
 
-fn handed_tallies() {
+pub(crate) fn handed_tallies() {
     tally(Call::Plan, 1, 0);
     tally(Call::Plan, 1000000, 0);
     tally(Call::Plan, 1000001, 0);
@@ -159,7 +160,7 @@ fn handed_tallies() {
     tally(Call::Recount, 1000001, 0);
 }
 
-fn join_tallies() {
+pub(crate) fn join_tallies() {
     tally(Call::Join, 1, 2);
     tally(Call::Join, 2, 0);
     tally(Call::Join, 2, 999998);
@@ -170,7 +171,7 @@ fn join_tallies() {
     tally(Call::Join, 4294967295, 4294967295);
 }
 
-fn take_tallies() {
+pub(crate) fn take_tallies() {
     tally(Call::Take, 2, 0);
     tally(Call::Take, 1000000, 1);
     tally(Call::Take, 1000000, 999999);
@@ -179,13 +180,6 @@ fn take_tallies() {
     tally(Call::Take, 2, 1000001);
     tally(Call::Take, 2, 2);
     tally(Call::Take, 2, 3);
-}
-
-pub(crate) fn tallies() {
-    add_tallies();
-    handed_tallies();
-    join_tallies();
-    take_tallies();
 }
 
 pub(crate) fn every_pair() {

@@ -28,17 +28,19 @@ use plate::refusal::Answer;
 // The entry that stands for none.
 const NONE: u64 = 18446744073709551615;
 
-// Whether the sheets and the list hold what they held, from some entries and counts on.
+// The end of a line: whether the sheets and the list hold what they held, from some entries and counts on, and other memory.
 fn sheets_kept(
     errors: &[u64; 96],
     thicknesses: &[u8; 96],
     list: &[u64; 96],
     entries: usize,
     counts: usize,
-) -> bool {
-    same64(errors, &filled64(7), entries)
+    rest: bool,
+) {
+    let same = same64(errors, &filled64(7), entries)
         && same8(thicknesses, &filled8(17), entries)
-        && same64(list, &filled64(5), counts)
+        && same64(list, &filled64(5), counts);
+    show::kept(same && rest);
 }
 
 // Both sheets and the list.
@@ -61,10 +63,10 @@ fn plan_told(
 ) {
     answered(answer);
     match answer {
-        Answer::Refused(_) => show::kept(sheets_kept(errors, thicknesses, list, 0, 0) && rest),
+        Answer::Refused(_) => sheets_kept(errors, thicknesses, list, 0, 0, rest),
         Answer::Done(_) => {
             sheets(errors, thicknesses, list);
-            show::kept(sheets_kept(errors, thicknesses, list, 45, 4) && rest);
+            sheets_kept(errors, thicknesses, list, 45, 4, rest);
         }
     }
 }
@@ -115,16 +117,20 @@ fn spoiled_thicknesses(p: Pair, mut thicknesses: [u8; 96]) -> [u8; 96] {
     thicknesses
 }
 
+// The end of a line: whether the output is as before from an index on, and other memory.
+fn out_kept(out: &[i32; 96], from: usize, rest: bool) {
+    show::kept(same_signed(out, &filled_signed(7), from) && rest);
+}
+
 // The end of a line: the answer of reading back, the boundaries where it is not refused, and whether other memory is as before.
 fn read_told(answer: Answer, out: &[i32; 96], boundaries: usize, rest: bool) {
     answered(answer);
-    let before = filled_signed(7);
     match answer {
-        Answer::Refused(_) => show::kept(same_signed(out, &before, 0) && rest),
+        Answer::Refused(_) => out_kept(out, 0, rest),
         Answer::Done(_) => {
             show::text(b" at");
             show_heights(out, boundaries);
-            show::kept(same_signed(out, &before, boundaries) && rest);
+            out_kept(out, boundaries, rest);
         }
     }
 }

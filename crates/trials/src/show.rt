@@ -8,6 +8,15 @@ pub(crate) fn text(words: &[u8]) {
     io::write_all(STDOUT_FILENO, words);
 }
 
+// The end of a line's heading, and that of a line.
+pub(crate) fn colon() {
+    text(b":");
+}
+
+pub(crate) fn end() {
+    text(b"\n");
+}
+
 // A number with a space before it.
 pub(crate) fn next(x: u64) {
     text(b" ");

@@ -22,6 +22,12 @@ fn cells(table: &[u32; 96], before: &[u32; 96], rest: bool) {
     show::kept(same32(table, before, 24) && rest);
 }
 
+// The end of a line: the answer of a call on a table, the cells, and whether the whole of its buffer is as another.
+pub(crate) fn tabled_as(answer: Tabled, table: &[u32; 96], expected: &[u32; 96]) {
+    tallied(answer);
+    cells(table, expected, same32(table, expected, 0));
+}
+
 // The end of a line: the answer of a call on a table, the cells where it is not refused, and whether memory was kept.
 pub(crate) fn tabled(answer: Tabled, table: &[u32; 96], before: &[u32; 96], rest: bool) {
     tallied(answer);

@@ -2,8 +2,7 @@
 use crate::calls::Job;
 use crate::calls::add;
 use crate::calls::clear;
-use crate::calls::join;
-use crate::calls::take;
+use crate::calls::paired;
 use crate::lend::filled32;
 use crate::lend::front32;
 use crate::lend::part16;
@@ -77,12 +76,13 @@ fn second_job(p: Pair, columns: u32) -> Job {
 
 // The front of the second joined into that of the first, or taken off it.
 fn pair_lent(p: Pair, off: bool, table: &mut [u32], other: &[u32], more: u32) -> Tabled {
-    let first = front32(table, p.size(6, 24));
-    let second = part32(other, p.size(7, 24));
-    if off {
-        return take(first, p.job(p.columns), second, second_job(p, more));
-    }
-    join(first, p.job(p.columns), second, second_job(p, more))
+    paired(
+        off,
+        front32(table, p.size(6, 24)),
+        p.job(p.columns),
+        part32(other, p.size(7, 24)),
+        second_job(p, more),
+    )
 }
 
 // The table of both columns, and that of column B joined into it or taken off it.

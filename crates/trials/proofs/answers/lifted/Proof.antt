@@ -16,6 +16,5 @@ lifted-spec =
     (λ c κs. search needs)
     (λ c. no-nan _ _ _ _ (c .before .before .before .before .before .motor-height .ensures .1) (c .before .before .before .height .given .1))
     (λ c κs. search needs)
-    (λ c. search needs)
     (λ c κs. search needs)
     (λ c. search needs))

@@ -2,8 +2,8 @@
 use lib.ListN.{length}
 use borrow.Author.Needs.{needs}
 use Prim.Native.Nat.{_-_}
-use Rattle.trials.proofs.large.show_digest32.Statement.{statement}
-use Rattle.trials.proofs.large.show_digest32.Tie as tie
+use Rattle.trials.proofs.digest.show_digest32.Statement.{statement}
+use Rattle.trials.proofs.digest.show_digest32.Tie as tie
 
 abbrev Inv-loop : tie.InvT-loop
 Inv-loop buffer digest₀ i₀ digest i = Unit {0}

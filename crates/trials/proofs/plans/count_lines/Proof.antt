@@ -1,14 +1,15 @@
--- The counts run from 0 to 5. Assumes nothing.
+-- The loop ends with the last count. Assumes nothing.
+use lib.ListN.{length}
 use Prim.Native.Nat.{_-_}
 use borrow.Author.Needs.{needs}
-use Rattle.trials.proofs.worked.count_lines.Statement.{statement}
-use Rattle.trials.proofs.worked.count_lines.Tie as tie
+use Rattle.trials.proofs.plans.count_lines.Statement.{statement}
+use Rattle.trials.proofs.plans.count_lines.Tie as tie
 
 abbrev Inv-loop : tie.InvT-loop
-Inv-loop job table errors thicknesses n₀ n = Unit {0}
+Inv-loop job table errors thicknesses counts i₀ i = Unit {0}
 
 abbrev μ-loop : tie.MeasureT-loop
-μ-loop job table errors thicknesses n₀ n = 6 - n
+μ-loop job table errors thicknesses counts i₀ i = length counts - i
 
 pub count-lines-spec : {M : Type 1} → statement M
 count-lines-spec =
@@ -16,6 +17,8 @@ count-lines-spec =
     (tie.spec
     Inv-loop
     μ-loop
+    (λ c. search needs)
+    (λ c. search needs)
     (λ c. search needs)
     (λ c κs. search needs)
     (λ c. search needs)
