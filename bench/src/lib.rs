@@ -2,6 +2,7 @@
 // Nothing here was taken from the library's sources; document 01 alone was followed.
 
 pub mod brute;
+pub mod make;
 pub mod plain;
 pub mod quick;
 pub mod random;
