@@ -13,9 +13,9 @@ pub enum Size {
 
 pub fn size(random: &mut Random) -> Size {
     match random.below(200) {
-        0..=109 => Size::Tiny,
-        110..=169 => Size::Small,
-        170..=196 => Size::Middle,
+        0..=99 => Size::Tiny,
+        100..=154 => Size::Small,
+        155..=191 => Size::Middle,
         _ => Size::Full,
     }
 }
