@@ -13,7 +13,7 @@ use std::process::ExitCode;
 use std::time::Instant;
 
 const SEED: u64 = 20_240_917;
-const ROUNDS: u64 = 12_000;
+const ROUNDS: u64 = 16_000;
 const SESSION_EVERY: u64 = 20;
 const FULL_SESSION_EVERY: u64 = 600;
 const ALL_REFUSALS_FROM: u64 = 4_000;
@@ -88,7 +88,7 @@ fn compare() -> Result<(), String> {
     if let Some(number) = wanted.only {
         return round(wanted.seed, number, &mut tally);
     }
-    let edges = edges::edges(&mut Random::new(wanted.seed, u64::MAX))?;
+    let edges = edges::edges(&mut Random::new(wanted.seed, u64::MAX)).map_err(|d| format!("at the edges: {d}"))?;
     for number in 0..wanted.rounds {
         round(wanted.seed, number, &mut tally)?;
     }
