@@ -1,13 +1,13 @@
--- What is known of a record that was read: its checks passed. A record that is neither a fault nor an end takes four bytes or more and
--- ends in the input, so that a file has an end. Assumes nothing.
+-- What is known of a record that was read: its checks passed. A record that is not a fault takes four bytes or more and ends in the input,
+-- so that a file has an end; only the end answered again takes none. Assumes nothing.
 use mathlib.Core.Path.{_≡_, refl, sym, subst}
 use mathlib.Core.Bool.{Bool, true, false, not, cond}
 use mathlib.Core.List.{List}
 use mathlib.Core.Option.{Option, none, some}
 use Prim.Native.Nat.{ℕ, _+_, _-_, _*_, _/_, _≤_, _<_}
 use native.Mathlib.Omega.{arith}
-use borrow.Author.Tests.{ltb-false, leb-false}
-use lib.Dec.{ltb}
+use borrow.Author.Tests.{ltb-false, leb-false, eqb-true, not-true, not-false}
+use lib.Dec.{ltb, eqb}
 use lib.ListN.{length}
 use Rattle.lists.specs.Checks.{first}
 use Rattle.lists.proofs.Checks.{first-none}
@@ -31,20 +31,13 @@ SaysBy s st at m (done (What.settings a)) =
 SaysBy s st at m (done (What.column start count)) =
     Ahead s at (m .next) × (st .begun ≡ true) × (m .state ≡ counted st) × (st .columns < mostColumns)
     × (first (columnChecks (st .asked .height) (words s start count)) ≡ none) × (start + 2 * count ≤ length s)
-SaysBy s st at m (done (ended columns)) = (m .state .asked ≡ st .asked) × (st .ended ≡ false → st .begun ≡ true)
+SaysBy s st at m (done (ended columns)) =
+    (m .state .asked ≡ st .asked) × (columns ≡ st .columns) × (st .ended ≡ false → (st .begun ≡ true) × Ahead s at (m .next))
 SaysBy s st at m (done What.remark) = Ahead s at (m .next) × (m .state ≡ st)
 SaysBy s st at m (refused number place) = Unit {0}
 
 pub record Says (s : List ℕ) (st : State) (at : ℕ) (m : Moved) : Type 0 where
   pub by : SaysBy s st at m (m .told)
-
-not-false : (b : Bool) → not b ≡ false → b ≡ true
-not-false true e = refl
-not-false false e = absurd (let z : _≡_ {A = ℕ} 0 1 = cc in omega arith)
-
-not-true : (b : Bool) → not (not b) ≡ false → b ≡ false
-not-true true e = absurd (let z : _≡_ {A = ℕ} 0 1 = cc in omega arith)
-not-true false e = refl
 
 module _ (s : List ℕ) (st : State) (at : ℕ) where
   module _ (room : at + 4 ≤ length s) where
@@ -54,13 +47,17 @@ module _ (s : List ℕ) (st : State) (at : ℕ) where
         let q = first-none (kindChecks s st at settings) .0 e in
         let w = ltb-false (length s - (at + 4)) (le16 s at) (q .1 .1 .0) in
         let body = settingsChecks (le16 s (at + 4)) (le32 s (at + 4 + 2)) in
-        record { by = ((omega arith, omega arith), not-true (st .begun) (q .0), refl, placed-passed at body (first-none (placed at body) .1 (q .1 .1 .1)), refl) }
+        record { by = ((omega arith, omega arith), not-true (st .begun) (not-false (not (st .begun)) (q .0)), refl, placed-passed at body (first-none (placed at body) .1 (q .1 .1 .1)), refl) }
     found-says column e =
         let q = first-none (kindChecks s st at column) .0 e in
         let w = ltb-false (length s - (at + 4)) (le16 s at) (q .1 .1 .0) in
         let body = columnChecks (st .asked .height) (words s (at + 4) (le16 s at / 2)) in
         record { by = ((omega arith, omega arith), not-false (st .begun) (q .0), refl, leb-false mostColumns (st .columns) (q .1 .1 .1 .0), placed-passed at body (first-none (placed at body) .1 (q .1 .1 .1 .1)), omega arith) }
-    found-says ending e = let q = first-none (kindChecks s st at ending) .0 e in record { by = (refl, λ _. not-false (st .begun) (q .0)) }
+    found-says ending e =
+        let q = first-none (kindChecks s st at ending) .0 e in
+        let w = ltb-false (length s - (at + 4)) (le16 s at) (q .1 .1 .0) in
+        let count = eqb-true (le32 s (at + 4)) (st .columns) (not-false (eqb (le32 s (at + 4)) (st .columns)) (q .1 .1 .1 .0)) in
+        record { by = (refl, count, λ _. (not-false (st .begun) (q .0), (omega arith, omega arith))) }
     found-says remark e =
         let q = first-none (kindChecks s st at remark) .0 e in
         let w = ltb-false (length s - (at + 4)) (le16 s at) (q .1 .1 .0) in
@@ -81,7 +78,7 @@ module _ (s : List ℕ) (st : State) (at : ℕ) where
     where
       go : (b : Bool) → Says s st at (moved st at (toldBy (cond b (some (record { number = 16; place = at })) none) (record { what = ended (st .columns); next = at; state = st })))
       go true = record { by = tt }
-      go false = record { by = (refl, λ f. absurd (let z : _≡_ {A = ℕ} 0 1 = cc in omega arith)) }
+      go false = record { by = (refl, refl, λ f. absurd (let z : _≡_ {A = ℕ} 0 1 = cc in omega arith)) }
 
   pub read-says : Says s st at (readRecord s st at)
   unfolding readRecord

@@ -114,7 +114,7 @@ module _ (most : ℕ) (s : List ℕ) (byte : (i : ℕ) → getD s i 0 < 256) whe
         let a : job .asked ≡ st .asked = sym (ap (λ (j : Job). j .asked) f) ∙ p .0 in
         let n : job .columns ≡ [] = sym (ap (λ (j : Job). j .columns) f) in
         record {
-          asks = rw a (u .settled (p .1 (u .unended)));
+          asks = rw a (u .settled (p .2 (u .unended) .0));
           order = rw n tt;
           few = rw n (omega (arith, u .few));
           same = λ _. a;

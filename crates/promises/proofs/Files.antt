@@ -4,26 +4,23 @@
 -- columns. Assumes nothing.
 use mathlib.Core.Path.{_≡_, refl, sym, ap, subst, _∙_}
 use mathlib.Core.Logic.{_⊎_, inl, inr, _↔_}
-use mathlib.Core.Bool.{Bool, true, false, cond}
+use mathlib.Core.Bool.{false}
 use mathlib.Core.List.{List, [], _∷_, append-nil}
 use mathlib.Core.Option.{Option, none, some}
 use Prim.Native.Nat.{ℕ, zero, suc, pred, _+_, _-_, _≤_, _<_}
 use native.Mathlib.Omega.{arith}
-use borrow.Author.Tests.{le-ltb, ltb-false, eqb-true, not-false}
-use lib.Dec.{ltb, eqb}
+use borrow.Author.Tests.{le-ltb, ltb-false}
 use lib.ListN.{length, getD, length-append}
 use Rattle.lists.specs.Checks.{first}
 use Rattle.lists.proofs.Checks.{first-none}
-use Rattle.lists.proofs.Rewrite.{rewritten-past}
-use Rattle.paper.specs.Layer.{shares, ofColumns}
-use Rattle.paper.specs.Table.{cells, cellOf, Table}
-use Rattle.plate.specs.Refusal.{Told, done, refused, Numbered, toldBy}
+use Rattle.paper.specs.Layer.{ofColumns}
+use Rattle.paper.specs.Table.{cells, Table}
+use Rattle.plate.specs.Refusal.{Told, done, refused, Numbered}
 use Rattle.plate.proofs.Decided.{after-done}
 use Rattle.table.specs.Calls.{short}
 use Rattle.table.specs.Plates.{tableOf}
-use Rattle.table.proofs.Plates.{length-table, table-is}
-use Rattle.job.specs.Bytes.{le16, le32}
-use Rattle.job.specs.Record.{Kind, settings, column, ending, remark, unknown, kindOf, bodyChecks, kindChecks, What, ended, whatOf, found, Moved, moved, recordOf, pastEnd, readRecord, startState}
+use Rattle.table.proofs.Plates.{length-table, table-past, table-is}
+use Rattle.job.specs.Record.{settings, column, remark, What, ended, Moved, readRecord, startState}
 use Rattle.job.specs.Fold.{foldFrom}
 use Rattle.job.specs.File.{Job, sizeChecks, tailChecks, unless, behind, jobBy, jobOver, jobOf}
 use Rattle.job.specs.Load.{Onward, columnIn, loadOf, loadAnswer, loadTable, InOrder}
@@ -38,38 +35,6 @@ use Rattle.promises.proofs.Fine.{settings-passed, column-passed}
 use Rattle.promises.proofs.Places.{at-place, record-place}
 
 -- ---- one record
-
-module _ (s : List ℕ) (st : State) (at : ℕ) where
-  -- an end record has the number of columns, and ends in the input
-  ending-says : at + 4 ≤ length s → (kind : Kind) (columns : ℕ) → first (kindChecks s st at kind) ≡ none → whatOf s at kind ≡ ended columns
-      → (columns ≡ st .columns) × (at + 4 + le16 s at ≤ length s)
-  unfolding kindChecks bodyChecks
-  ending-says room ending columns e w =
-      let q = first-none (kindChecks s st at ending) .0 e in
-      let l = ltb-false (length s - (at + 4)) (le16 s at) (q .1 .1 .0) in
-      let c = eqb-true (le32 s (at + 4)) (st .columns) (not-false (eqb (le32 s (at + 4)) (st .columns)) (q .1 .1 .1 .0)) in
-      (cc, omega arith)
-  ending-says room Kind.settings columns e w = absurd (let z : _≡_ {A = ℕ} 0 1 = cc in omega arith)
-  ending-says room Kind.column columns e w = absurd (let z : _≡_ {A = ℕ} 0 1 = cc in omega arith)
-  ending-says room Kind.remark columns e w = absurd (let z : _≡_ {A = ℕ} 0 1 = cc in omega arith)
-  ending-says room unknown columns e w = absurd (let z : _≡_ {A = ℕ} 0 1 = cc in omega arith)
-
-  end-says : st .ended ≡ false → (columns : ℕ) → readRecord s st at .told ≡ done (ended columns) → (columns ≡ st .columns) × (readRecord s st at .next ≤ length s)
-  unfolding readRecord recordOf
-  end-says u columns = go (st .ended) u (ltb (length s - at) 4) refl (first (kindChecks s st at kind)) refl
-    where
-      kind : Kind
-      kind = kindOf (le16 s (at + 2))
-
-      way : Bool → Bool → Option Numbered → Moved
-      way b c o = cond b (pastEnd s st at) (cond c (moved st at (refused 16 at)) (moved st at (toldBy o (found s st at kind))))
-
-      go : (b : Bool) → b ≡ false → (c : Bool) → ltb (length s - at) 4 ≡ c → (o : Option Numbered) → first (kindChecks s st at kind) ≡ o
-          → way b c o .told ≡ done (ended columns) → (columns ≡ st .columns) × (way b c o .next ≤ length s)
-      go true n c f o g e = absurd (let z : _≡_ {A = ℕ} 0 1 = cc in omega arith)
-      go false n true f o g e = absurd (let z : _≡_ {A = ℕ} 0 1 = cc in omega arith)
-      go false n false f (some r) g e = absurd (let z : _≡_ {A = ℕ} 0 1 = cc in omega arith)
-      go false n false f none g e = ending-says (let l = ltb-false (length s - at) 4 f in omega arith) kind columns g (cc)
 
 module _ (most : ℕ) (s : List ℕ) where
   -- a record that passes leaves the file to the rest
@@ -222,12 +187,13 @@ module _ (most : ℕ) (s : List ℕ) where
           let f = sym (ended-there r (columns, p, nothing)) ∙ e in
           let j : record { asked = st .asked; columns = columnsTo r } ≡ job = cc in
           let is : columnsTo r ≡ job .columns = ap (λ (x : Job). x .columns) j in
-          let says = end-says s st at (unended r) columns p in
+          let says = subst (SaysBy s st at (readRecord s st at)) p (read-says s st at .by) in
+          let ahead = says .2 (unended r) .1 in
           let l = ltb-false (readRecord s st at .next) (length s) (first-none (tailChecks s (readRecord s st at .next)) .0 nothing .0) in (
             st,
             at,
             r,
-            record { told = p ∙ ap (λ (n : ℕ). done (ended n)) (says .0 ∙ counted r ∙ ap (λ (x : List (List ℕ)). length x) is); last = omega arith; asked = ap (λ (x : Job). x .asked) j },
+            record { told = p ∙ ap (λ (n : ℕ). done (ended n)) (says .1 ∙ counted r ∙ ap (λ (x : List (List ℕ)). length x) is); last = omega arith; asked = ap (λ (x : Job). x .asked) j },
             sym is,
           )
 
@@ -241,10 +207,6 @@ module _ (most : ℕ) (s : List ℕ) where
 columns-passed : (N : ℕ) (columns : List (List ℕ)) → InOrder N columns → Columns N columns
 columns-passed N [] o = tt
 columns-passed N (bs ∷ columns) o = (column-passed N bs (o .0), columns-passed N columns (o .1))
-
-table-past : (N T : ℕ) (columns : List (List ℕ)) (old : List ℕ) (i : ℕ) → cells N T ≤ i → getD (tableOf N T columns old) i 0 ≡ getD old i 0
-unfolding tableOf
-table-past N T columns old i l = rewritten-past (λ i x. cellOf T (shares columns) i) (cells N T) old i 0 l
 
 module _ (job : Job) (lent : List ℕ) (room : cells (job .asked .height) (job .asked .«set») ≤ length lent) where
   load-done : loadAnswer lent (done job) ≡ done (loadOf job)

@@ -7,7 +7,7 @@ use mathlib.Core.Option.{none}
 use Prim.Native.Nat.{ℕ, zero, suc, _+_, _-_, _≤_, _<_}
 use native.Mathlib.Omega.{arith}
 use native.Mathlib.Decide.{decLt}
-use borrow.Author.Tests.{le-ltb, ltb-false}
+use borrow.Author.Tests.{le-ltb, ltb-false, not-false}
 use lib.Dec.{ltb}
 use lib.IntN.{ℤ, pos, negℤ, _+ℤ_, _-ℤ_}
 use lib.ListN.{length}
@@ -115,10 +115,6 @@ module _ (N T bound : ℕ) (table : List ℕ) (settings : paper.Settings N T) (z
 
 clash : {b : Bool} → b ≡ true → b ≡ false → ⊥
 clash p q = let z : _≡_ {A = ℕ} 0 1 = cc in omega arith
-
-not-false : (b : Bool) → not b ≡ false → b ≡ true
-not-false true e = refl
-not-false false e = let z : _≡_ {A = ℕ} 0 1 = cc in absurd (omega arith)
 
 module _ (N T bound : ℕ) (table : List ℕ) (settings : paper.Settings N T) (zs : List ℤ) (passed : first (sequenceChecks N T table bound zs) ≡ none) where
   quiet : (ltb (length zs) 2 || startOut T (zs ! 0) ≡ false) × (ltb (firstLayerOut N T table bound zs) (count zs) ≡ false) × (ltZ (zs ! count zs) (pos N) ≡ false)

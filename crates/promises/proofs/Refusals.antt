@@ -17,6 +17,7 @@ use Rattle.motor.specs.Height.{heightChecks}
 use Rattle.table.specs.Calls.{short, tableChecks, clearAnswer, addRest, addAnswer, pairChecks, joinRest, joinAnswer, takeRest, takeAnswer}
 use Rattle.job.specs.Bytes.{le16}
 use Rattle.job.specs.Record.{Kind, kindOf, kindChecks, ended, Found, Moved, found, moved, recordOf, pastEnd, readRecord}
+use Rattle.job.specs.Load.{loadAnswer}
 use Rattle.job.specs.declared.State.{State}
 use Rattle.plan.specs.Plan.{planRest, planAnswer}
 use Rattle.plan.specs.Reading.{readChecks, readAnswer}
@@ -58,7 +59,7 @@ record-told s st at = ap (λ (m : Moved). m .told) (record-is s st at) ∙ moved
 -- ---- the sentence
 
 pub refusals : Refusals
-unfolding clearAnswer addAnswer joinAnswer takeAnswer planAnswer readAnswer recountAnswer pictureAnswer
+unfolding clearAnswer addAnswer joinAnswer takeAnswer planAnswer readAnswer recountAnswer pictureAnswer loadAnswer
 refusals = record {
   clear = λ N T table number place. refused-exactly (settingsChecks N T ++ (short N T table 1 ∷ [])) _ number place;
   add = λ N T c table bs number place. refused-exactly (settingsChecks N T ++ addRest N T c table bs) _ number place;
@@ -70,4 +71,5 @@ refusals = record {
   picture = λ N T bs z t number place. refused-exactly (pictureChecks N T bs z t) _ number place;
   motor = λ s z number place. refused-exactly (heightChecks s z) _ number place;
   read-record = λ s st at number place. rw (record-told s st at) (refused-exactly (recordChecks s st at) _ number place);
+  read-file = λ lent job number place. refused-exactly (short (job .asked .height) (job .asked .«set») lent 1 ∷ []) _ number place;
 }

@@ -1,5 +1,5 @@
--- 'Each is given exactly when it holds and nothing earlier in the call's order does': the sentence, of every call and of reading a record of
--- a job file. Assumes nothing.
+-- 'Each is given exactly when it holds and nothing earlier in the call's order does': the sentence, of every call, of reading a record of a
+-- job file, and of reading a file that is a job into a lent table. Assumes nothing.
 use Prim.Native.Nat.{ℕ, _+_, _-_}
 use mathlib.Core.Path.{_≡_}
 use mathlib.Core.Logic.{_↔_}
@@ -9,13 +9,15 @@ use lib.Dec.{ltb}
 use lib.IntN.{ℤ}
 use lib.ListN.{length}
 use Rattle.lists.specs.Checks.{Check, Given}
-use Rattle.plate.specs.Refusal.{Told, refused, Numbered, check}
+use Rattle.plate.specs.Refusal.{Told, done, refused, Numbered, check}
 use Rattle.plate.specs.Settings.{settingsChecks}
 use Rattle.column.specs.Picture.{pictureChecks, pictureAnswer}
 use Rattle.motor.specs.Height.{heightChecks, heightAnswer}
 use Rattle.table.specs.Calls.{short, tableChecks, clearAnswer, addRest, addAnswer, pairChecks, joinRest, joinAnswer, takeRest, takeAnswer}
 use Rattle.job.specs.Bytes.{le16}
 use Rattle.job.specs.Record.{kindOf, kindChecks, readRecord}
+use Rattle.job.specs.File.{Job}
+use Rattle.job.specs.Load.{loadAnswer}
 use Rattle.job.specs.declared.State.{State}
 use Rattle.plan.specs.Plan.{Sheets, planRest, planAnswer}
 use Rattle.plan.specs.Reading.{readChecks, readAnswer}
@@ -46,3 +48,4 @@ pub record Refusals : Type 0 where
   pub picture : (N T : ℕ) (bs : List ℕ) (z : ℤ) (t : ℕ) → Exactly (pictureAnswer N T bs z t) (pictureChecks N T bs z t)
   pub motor : (s : ℕ) (z : ℤ) → Exactly (heightAnswer s z) (heightChecks s z)
   pub read-record : (s : List ℕ) (st : State) (at : ℕ) → Exactly (readRecord s st at .told) (recordChecks s st at)
+  pub read-file : (lent : List ℕ) (job : Job) → Exactly (loadAnswer lent (done job)) (short (job .asked .height) (job .asked .«set») lent 1 ∷ [])

@@ -11,7 +11,7 @@ use lib.IntN.{ℤ}
 use lib.ListN.{length, getD}
 use Rattle.lists.specs.Checks.{first}
 use Rattle.lists.specs.Rewrite.{rewritten}
-use Rattle.lists.proofs.Rewrite.{rewritten-at, rewritten-twice, length-rewritten}
+use Rattle.lists.proofs.Rewrite.{rewritten-at, rewritten-past, rewritten-twice, length-rewritten}
 use Rattle.paper.specs.Layer.{allowed, share, shares, ofColumns}
 use Rattle.paper.specs.Table.{cells, startAt, thicknessAt, cellOf, limit, Table, mostColumns}
 use Rattle.plate.specs.Refusal.{done}
@@ -74,6 +74,11 @@ module _ (N T : ℕ) where
     pub length-table : (old : List ℕ) → length (tableOf N T columns old) ≡ length old
     unfolding tableOf
     length-table old = length-rewritten (λ i x. cellOf T (shares columns) i) (cells N T) old
+
+    -- what stands past it stays
+    pub table-past : (old : List ℕ) (i : ℕ) → cells N T ≤ i → getD (tableOf N T columns old) i 0 ≡ getD old i 0
+    unfolding tableOf
+    table-past old i l = rewritten-past (λ i x. cellOf T (shares columns) i) (cells N T) old i 0 l
 
     -- what stood in its place before does not matter
     pub table-again : (before : List (List ℕ)) (old : List ℕ) → tableOf N T columns (tableOf N T before old) ≡ tableOf N T columns old

@@ -45,7 +45,7 @@ module _ (s : List ℕ) (a : Asked) (tally : Tally) (r : Read) (old : List ℕ) 
 add-at-requires : tie.Need-add-at-requires
 add-at-requires c κs =
     let k = can _ _ _ _ _ _ _ (c .before .before .read .given .1) (c .before .before .before .before .before .before .pre) in
-    (k .0, k .1)
+    (omega (arith, k .0), omega (arith, k .1))
 
 returns : tie.Need-returns
 returns c =

@@ -1,0 +1,11 @@
+-- `bad_reply` meets its contract: the number of the reason is document 01's. Assumes nothing.
+use borrow.Author.Needs.{needs}
+use mathlib.Core.Path.{ap}
+use Prim.Native.Nat.{ℕ}
+use Rattle.plate.specs.Refusal.{refused}
+use Rattle.shagorent.specs.Replies.{reply}
+use Rattle.shagorent.proofs.bad_reply.Statement.{statement}
+use Rattle.shagorent.proofs.bad_reply.Tie as tie
+
+pub bad-reply-spec : {M : Type 1} → statement M
+bad-reply-spec = tie.close (tie.spec (λ c κs. search needs) (λ c. ap (λ (n : ℕ). reply (refused n 0)) (c .number .ensures)))

@@ -1,0 +1,15 @@
+-- `shagorent_clear_table` meets its contract: the reply is what `clear_table` tells. Assumes nothing.
+use borrow.Author.Needs.{needs}
+use mathlib.Core.Path.{ap, _∙_}
+use Rattle.shagorent.specs.Replies.{tableReply}
+use Rattle.shagorent.proofs.shagorent_clear_table.Statement.{statement}
+use Rattle.shagorent.proofs.shagorent_clear_table.Tie as tie
+
+pub shagorent-clear-table-spec : {M : Type 1} → statement M
+shagorent-clear-table-spec =
+    tie.close
+    (tie.spec
+    (λ c κs. search needs)
+    (λ c κs. search needs)
+    (λ c. search needs)
+    (λ c. (c .table-reply .ensures ∙ ap tableReply (c .before .before .before .clear-table .ensures .0), c .before .before .before .clear-table .ensures .1)))

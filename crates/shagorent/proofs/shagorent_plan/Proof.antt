@@ -1,0 +1,17 @@
+-- `shagorent_plan` meets its contract: the reply is what `plan` tells. Assumes nothing.
+use borrow.Author.Needs.{needs}
+use mathlib.Core.Path.{ap, _∙_}
+use Rattle.shagorent.specs.Replies.{reply}
+use Rattle.shagorent.proofs.shagorent_plan.Statement.{statement}
+use Rattle.shagorent.proofs.shagorent_plan.Tie as tie
+
+pub shagorent-plan-spec : {M : Type 1} → statement M
+shagorent-plan-spec =
+    tie.close
+    (tie.spec
+    (λ c κs. search needs)
+    (λ c κs. search needs)
+    (λ c. search needs)
+    (λ c. search needs)
+    (λ c. search needs)
+    (λ c. (c .reply-of .ensures ∙ ap reply (c .before .before .before .before .before .before .before .plan .ensures .0), c .before .before .before .before .before .before .before .plan .ensures .1)))

@@ -1,0 +1,15 @@
+-- `table_reply` meets its contract: the number of the reason is document 01's. Assumes nothing.
+use borrow.Author.Needs.{needs}
+use Rattle.shagorent.proofs.Replies.{table-refused, table-done}
+use Rattle.shagorent.proofs.table_reply.Statement.{statement}
+use Rattle.shagorent.proofs.table_reply.Tie as tie
+
+pub table-reply-spec : {M : Type 1} → statement M
+table-reply-spec =
+    tie.close
+    (tie.spec
+    (λ c. search needs)
+    (λ c. search needs)
+    (λ c κs. search needs)
+    (λ c. table-done (c .before .tabled .given .0 .0) _ (c .before .tabled .given .1))
+    (λ c. table-refused _ (c .before .before .tabled2 .given .0 .0) (c .number .ensures) _ (c .before .before .tabled2 .given .1)))

@@ -1,0 +1,26 @@
+-- The search ends with the line. Assumes nothing.
+use borrow.Author.Needs.{needs}
+use lib.ListN.{length}
+use Prim.Native.Nat.{_-_}
+use Rattle.trial_records.proofs.cases.find.Statement.{statement}
+use Rattle.trial_records.proofs.cases.find.Tie as tie
+
+abbrev Inv-loop : tie.InvT-loop
+Inv-loop line from character i₀ i = Unit {0}
+
+abbrev μ-loop : tie.MeasureT-loop
+μ-loop line from character i₀ i = length line - i
+
+pub find-spec : {M : Type 1} → statement M
+find-spec =
+    tie.close
+    (tie.spec
+    Inv-loop
+    μ-loop
+    (λ c. search needs)
+    (λ c. search needs)
+    (λ c. search needs)
+    (λ c. search needs)
+    (λ c. search needs)
+    (λ c. search needs)
+    (λ c. search needs))

@@ -1,0 +1,97 @@
+// A whole file read into a part of a buffer that holds a pattern before.
+use crate::show;
+use job::Load;
+use job::Loaded;
+use job::read_job;
+
+const PATTERN: [u32; 30] = [
+    900,
+    901,
+    902,
+    903,
+    904,
+    905,
+    906,
+    907,
+    908,
+    909,
+    910,
+    911,
+    912,
+    913,
+    914,
+    915,
+    916,
+    917,
+    918,
+    919,
+    920,
+    921,
+    922,
+    923,
+    924,
+    925,
+    926,
+    927,
+    928,
+    929,
+];
+
+// The front of a buffer; the whole of it where it is no longer than that.
+fn front(buffer: &mut [u32], size: usize) -> &mut [u32] {
+    if size <= buffer.len() {
+        return &mut buffer[..size];
+    }
+    buffer
+}
+
+fn is_pattern(table: &[u32; 30]) -> bool {
+    let mut i = 0;
+    while i < 30 {
+        if table[i] != PATTERN[i] {
+            return false;
+        }
+        i += 1;
+    }
+    true
+}
+
+fn show_table(table: &[u32; 30]) {
+    show::text(b"; table");
+    let mut i = 0;
+    while i < 30 {
+        show::next32(table[i]);
+        i += 1;
+    }
+}
+
+fn show_load(load: Load) {
+    let asked = load.asked;
+    let tally = load.tally;
+    show::asked(asked);
+    show::text(b", columns");
+    show::next32(tally.columns);
+}
+
+// By the most entries that a table or a sheet may have, and the length of the part that is lent. A file that was read shows the whole buffer,
+// so that what stands past the table, and past the part, is seen.
+pub(crate) fn file(numbers: [u64; 8], input: &[u8]) {
+    let mut table = PATTERN;
+    let answer = read_job(
+        input,
+        numbers[0] as usize,
+        front(&mut table, numbers[1] as usize),
+    );
+    show::text(b":");
+    match answer {
+        Loaded::Refused(refusal) => {
+            let reason = refusal.reason;
+            show::refused(reason, refusal.place);
+            show::kept(is_pattern(&table));
+        }
+        Loaded::Done(load) => {
+            show_load(load);
+            show_table(&table);
+        }
+    }
+}

@@ -1,0 +1,21 @@
+-- A motor height is no NaN, so it has bits. Assumes nothing.
+use Rattle.trials.proofs.Heights.{no-nan}
+use borrow.Author.Needs.{needs}
+use Rattle.trials.proofs.answers.lifted.Statement.{statement}
+use Rattle.trials.proofs.answers.lifted.Tie as tie
+
+pub lifted-spec : {M : Type 1} → statement M
+lifted-spec =
+    tie.close
+    (tie.spec
+    (λ c κs. search needs)
+    (λ c. search needs)
+    (λ c κs. search needs)
+    (λ c. search needs)
+    (λ c. search needs)
+    (λ c κs. search needs)
+    (λ c. no-nan _ _ _ _ (c .before .before .before .before .before .motor-height .ensures .1) (c .before .before .before .height .given .1))
+    (λ c κs. search needs)
+    (λ c. search needs)
+    (λ c κs. search needs)
+    (λ c. search needs))

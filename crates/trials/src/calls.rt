@@ -1,0 +1,114 @@
+// The calls of document 01, each on the numbers of a job. They promise nothing here, so that a trial's proof carries none of what the
+// library's calls promise.
+use column::Pictured;
+use column::picture;
+use plan::plan;
+use plan::read_back;
+use plate::refusal::Answer;
+use recount::recount;
+use table::Tabled;
+use table::Tally;
+use table::add_column;
+use table::clear_table;
+use table::join_tables;
+use table::take_off;
+
+// The bound that excludes nothing.
+pub const NO_BOUND: u32 = 4294967295;
+
+// The settings, the column count and the bound that a call is handed, good or not.
+pub struct Job {
+    pub height: u32,
+    pub set: u32,
+    pub columns: u32,
+    pub bound: u32,
+}
+
+impl Job {
+    // No bound in effect.
+    pub(crate) fn of(height: u32, set: u32, columns: u32) -> Self {
+        Job {
+            height,
+            set,
+            columns,
+            bound: NO_BOUND,
+        }
+    }
+
+    pub(crate) fn tally(self) -> Tally {
+        Tally {
+            columns: self.columns,
+        }
+    }
+}
+
+pub(crate) fn clear(table: &mut [u32], job: Job) -> Tabled {
+    clear_table(table, job.height, job.set)
+}
+
+pub(crate) fn add(table: &mut [u32], job: Job, column: &[u16]) -> Tabled {
+    add_column(table, job.height, job.set, job.tally(), column)
+}
+
+pub(crate) fn join(table: &mut [u32], job: Job, other: &[u32], second: Job) -> Tabled {
+    join_tables(
+        table,
+        job.height,
+        job.set,
+        job.tally(),
+        other,
+        second.height,
+        second.set,
+        second.tally(),
+    )
+}
+
+pub(crate) fn take(table: &mut [u32], job: Job, other: &[u32], second: Job) -> Tabled {
+    take_off(
+        table,
+        job.height,
+        job.set,
+        job.tally(),
+        other,
+        second.height,
+        second.set,
+        second.tally(),
+    )
+}
+
+pub(crate) fn planned(
+    table: &[u32],
+    job: Job,
+    errors: &mut [u64],
+    thicknesses: &mut [u8],
+    list: &mut [u64],
+) -> Answer {
+    plan(
+        table,
+        job.height,
+        job.set,
+        job.tally(),
+        job.bound,
+        errors,
+        thicknesses,
+        list,
+    )
+}
+
+pub(crate) fn read(
+    job: Job,
+    errors: &[u64],
+    thicknesses: &[u8],
+    count: u32,
+    out: &mut [i32],
+) -> Answer {
+    read_back(job.height, job.set, errors, thicknesses, count, out)
+}
+
+pub(crate) fn recounted(table: &[u32], job: Job, sequence: &[i32]) -> Answer {
+    recount(table, job.height, job.set, job.tally(), job.bound, sequence)
+}
+
+pub(crate) fn pictured(column: &[u16], job: Job, start: i32, thickness: u32) -> Pictured {
+    picture(column, job.height, job.set, start, thickness)
+}

@@ -1,0 +1,166 @@
+/* Shagorent: layer plans of least error for resin printers.
+ *
+ * Given the columns of a plate, it finds for every number of layers the sequence of layers with the least error, the fewest voxels wrongly
+ * filled or left out. Every function of it is proved to keep what is said here, for any input.
+ *
+ * Link with libshagorent.a, which `rt staticlib shagorent` makes in target/staticlib.
+ *
+ * MEMORY. All memory is lent: the library allocates nothing, keeps nothing after a call, has no state of its own, blocks on nothing, and may
+ * be called from several threads at once with different buffers. A buffer is a pointer and a length in elements, and may be longer than asked
+ * for: nothing past the stated size is read or written. Pointers must not be null, also where the length is 0, and must be aligned as their
+ * type asks; two buffers of one call must not overlap if one of them is written.
+ *
+ * REPLIES. Every call checks its input itself and answers by a struct: `number` is 0 where it is done, and otherwise the number of a refusal,
+ * with its place. A refused call has written nothing. Fields that a reply has no use for are 0.
+ *
+ * UNITS. Heights and thicknesses are whole units. A plate is `height` units high, 1 to 512. `set` has bit k-1 set for each allowed thickness k,
+ * 1 to 32; tmin and tmax are its least and greatest. A layer from z of thickness t holds the voxels z to z+t-1; z may be below 0.
+ */
+#ifndef SHAGORENT_H
+#define SHAGORENT_H
+
+#include <stddef.h>
+#include <stdint.h>
+
+#ifdef __cplusplus
+extern "C" {
+#endif
+
+/* Limits. */
+#define SHAGORENT_LEAST_HEIGHT 1u
+#define SHAGORENT_GREATEST_HEIGHT 512u
+#define SHAGORENT_GREATEST_THICKNESS 32u
+#define SHAGORENT_MOST_BOUNDARIES 64u     /* of a column */
+#define SHAGORENT_MOST_COLUMNS 1000000u   /* of a table */
+#define SHAGORENT_MOST_CELLS 18368u       /* of any table */
+#define SHAGORENT_MOST_ENTRIES 330625u    /* of any sheet */
+#define SHAGORENT_MOST_COUNTS 574u        /* of any plan */
+#define SHAGORENT_LEAST_STEP 1u           /* of a motor, in eighths of a micrometre */
+#define SHAGORENT_GREATEST_STEP 8192u
+#define SHAGORENT_LOWEST_BOUNDARY (-31)   /* that a motor can be sent to */
+#define SHAGORENT_HIGHEST_BOUNDARY 543
+#define SHAGORENT_NO_BOUND UINT32_MAX     /* a bound that excludes nothing */
+#define SHAGORENT_NONE UINT64_MAX         /* in an error sheet or a list: there is no such sequence */
+
+/* Refusals: the number, and what its place is. */
+#define SHAGORENT_DONE 0u
+#define SHAGORENT_HEIGHT 1u          /* height outside 1 to 512; 0 */
+#define SHAGORENT_NO_THICKNESS 2u    /* no thickness allowed; 0 */
+#define SHAGORENT_SHORT_BUFFER 3u    /* a lent buffer shorter than stated; which, from 1, in the order of the parameters */
+#define SHAGORENT_BOUNDARY_COUNT 4u  /* an odd number of boundaries, or more than 64; the number */
+#define SHAGORENT_BOUNDARY 5u        /* a boundary above the height, or not above the one before; the first such index */
+#define SHAGORENT_CELL 6u            /* a cell out of bounds for the table's column count; the lowest such index */
+#define SHAGORENT_COLUMNS 7u         /* columns beyond 1,000,000; 0 */
+#define SHAGORENT_SETTINGS 8u        /* two tables' settings differ; 0 */
+#define SHAGORENT_NOT_A_PART 9u      /* the second table is not a part of the first; 0 by its count, else the lowest such cell */
+#define SHAGORENT_COUNT 10u          /* count 0 or above the greatest; 0 */
+#define SHAGORENT_NO_SEQUENCE 11u    /* no admissible sequence of that count; 0 */
+#define SHAGORENT_UNREADABLE 12u     /* sheets that do not read back; the layer, or 0 */
+#define SHAGORENT_NOT_ADMISSIBLE 13u /* a sequence or a layer that is not admissible; the first such index */
+#define SHAGORENT_STEP 14u           /* step outside 1 to 8,192; 0 */
+#define SHAGORENT_MOTOR_BOUNDARY 15u /* boundary outside -31 to 543; 0 */
+#define SHAGORENT_MALFORMED 16u      /* a malformed job file; the first byte of the record at fault, or of what stands after the end */
+#define SHAGORENT_TOO_LARGE 17u      /* a job too large for the caller; the first byte of its settings record */
+
+typedef struct {
+    uint32_t number;
+    uint64_t value; /* the answer, or the place */
+} shagorent_reply;
+
+typedef struct {
+    uint32_t number;
+    uint32_t columns; /* the table's column count now */
+    uint64_t place;
+} shagorent_table_reply;
+
+typedef struct {
+    uint32_t number;
+    uint32_t filled; /* 1 or 0 */
+    uint64_t value;  /* the share, or the place */
+} shagorent_picture_reply;
+
+typedef struct {
+    uint32_t number;
+    float height; /* micrometres, exact */
+    uint64_t place;
+} shagorent_height_reply;
+
+typedef struct {
+    uint32_t number;
+    uint32_t height;
+    uint32_t set;
+    uint32_t bound;
+    uint32_t columns;
+    uint64_t place;
+} shagorent_job_reply;
+
+/* ---- Sizes of the buffers to lend; refusals 1, 2. */
+
+/* Cells of a table: (N + 2*tmax - 2) * tmax. */
+shagorent_reply shagorent_cells(uint32_t height, uint32_t set);
+
+/* Entries of each sheet: (N + 2*tmax - 1) * (M + 1). */
+shagorent_reply shagorent_entries(uint32_t height, uint32_t set);
+
+/* The greatest count, M = (N + 2*tmax - 2) / tmin: the length of a list; a sequence of n layers has n + 1 boundaries. */
+shagorent_reply shagorent_counts(uint32_t height, uint32_t set);
+
+/* ---- Tables. The caller keeps a table's column count beside it. */
+
+/* All cells 0, count 0. Refusals 1, 2, 3. */
+shagorent_table_reply shagorent_clear_table(uint32_t *table, size_t table_length, uint32_t height, uint32_t set);
+
+/* Adds a column to a table of `columns` columns: its boundaries, an even number of at most 64, strictly rising, each from 0 to the height;
+ * a voxel is inside if an odd number of them are at or below it. Refusals 1, 2, 3, 7, 4, 5, 6. */
+shagorent_table_reply shagorent_add_column(uint32_t *table, size_t table_length, uint32_t height, uint32_t set, uint32_t columns,
+                                           const uint16_t *column, size_t column_length);
+
+/* Joins the second table into the first. Refusals 1, 2 of the first, 1, 2 of the second, 8, 3, 7, 6 in the first, 6 in the second. */
+shagorent_table_reply shagorent_join_tables(uint32_t *table, size_t table_length, uint32_t height, uint32_t set, uint32_t columns,
+                                            const uint32_t *other, size_t other_length, uint32_t other_height, uint32_t other_set,
+                                            uint32_t other_columns);
+
+/* Takes the second table off the first. Refusals as for joining, with 7 for either count only, and then 9. */
+shagorent_table_reply shagorent_take_off(uint32_t *table, size_t table_length, uint32_t height, uint32_t set, uint32_t columns,
+                                         const uint32_t *other, size_t other_length, uint32_t other_height, uint32_t other_set,
+                                         uint32_t other_columns);
+
+/* ---- Plans. */
+
+/* Fills the error sheet, the thickness sheet and the list of the least errors of the counts 1 to M, for layers whose error is at most the
+ * bound. Answers M. Refusals 1, 2, 3 (table, errors, thicknesses, list), 7, 6. */
+shagorent_reply shagorent_plan(const uint32_t *table, size_t table_length, uint32_t height, uint32_t set, uint32_t columns, uint32_t bound,
+                               uint64_t *errors, size_t errors_length, uint8_t *thicknesses, size_t thicknesses_length, uint64_t *list,
+                               size_t list_length);
+
+/* Reads the sequence of `count` layers back from two sheets into `out`, its count + 1 boundaries from the lowest up. Answers its error.
+ * Refusals 1, 2, 3 (errors, thicknesses), 10, 3 (out), 11, 12; over sheets that a plan of these settings left, 12 never occurs. */
+shagorent_reply shagorent_read_back(uint32_t height, uint32_t set, const uint64_t *errors, size_t errors_length, const uint8_t *thicknesses,
+                                    size_t thicknesses_length, uint32_t count, int32_t *out, size_t out_length);
+
+/* The error of a given sequence over a table. Refusals 1, 2, 3, 7, 6, 13. */
+shagorent_reply shagorent_recount(const uint32_t *table, size_t table_length, uint32_t height, uint32_t set, uint32_t columns, uint32_t bound,
+                                  const int32_t *sequence, size_t sequence_length);
+
+/* ---- Pictures and motors. */
+
+/* Whether the layer from `start` of this thickness fills the column in its picture, and the column's share of the layer's error.
+ * Refusals 1, 2, 4, 5, 13 (0: the start, 1: the thickness). */
+shagorent_picture_reply shagorent_picture(uint32_t height, uint32_t set, const uint16_t *column, size_t column_length, int32_t start,
+                                          uint32_t thickness);
+
+/* The height of a boundary in micrometres, for a motor whose step is given in eighths of a micrometre: exactly boundary * step / 8.
+ * Refusals 14, 15. */
+shagorent_height_reply shagorent_motor_height(uint32_t step, int32_t boundary);
+
+/* ---- Job files. */
+
+/* Reads a whole job file into a table. Answers what its settings ask for, and its column count. Refusals of the file, in its own order: 16, 1,
+ * 2, 7, 4, 5, with 17 straight after 1 and 2 where a table or a sheet of its settings has more than `most` entries; then 3. */
+shagorent_job_reply shagorent_read_job(const uint8_t *input, size_t input_length, size_t most, uint32_t *table, size_t table_length);
+
+#ifdef __cplusplus
+}
+#endif
+
+#endif
