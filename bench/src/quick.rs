@@ -114,8 +114,20 @@ fn fill(plate: Plate, table: &[u32], bound: u32, sheets: Sheets, range: impl Fn(
     fill_list(plate, sheets.errors, &mut sheets.list[..width - 1]);
 }
 
-/// A layer put on every sequence of the start row: the hot loop.
+/// A layer put on every sequence of the start row: the hot loop, by fours, and not inlined, which leaves it more registers.
+#[inline(never)]
 fn put_on(below: &[u64], error: u32, thickness: u8, here: &mut [u64], last: &mut [u8]) {
+    let mut below = below.chunks_exact(4);
+    let mut here = here.chunks_exact_mut(4);
+    let mut last = last.chunks_exact_mut(4);
+    for ((below, here), last) in (&mut below).zip(&mut here).zip(&mut last) {
+        put_on_each(below, error, thickness, here, last);
+    }
+    put_on_each(below.remainder(), error, thickness, here.into_remainder(), last.into_remainder());
+}
+
+#[inline(always)]
+fn put_on_each(below: &[u64], error: u32, thickness: u8, here: &mut [u64], last: &mut [u8]) {
     for ((&before, least), held) in below.iter().zip(here).zip(last) {
         let sum = before.saturating_add(u64::from(error));
         if sum < *least {

@@ -11,7 +11,7 @@ use std::hint::black_box;
 use std::time::{Duration, Instant};
 
 const SEED: u64 = 7;
-const ROUNDS: usize = 15;
+const ROUNDS: usize = 101;
 const LEAST_ROUNDS: usize = 9;
 const ALL: u32 = u32::MAX;
 const FOUR_TO_SIXTEEN: u32 = 0xFFF8;
@@ -283,16 +283,18 @@ fn reading_back(rounds: usize, name: &str, height: u32, set: u32, times: u32) {
 fn main() {
     let asked = std::env::args().nth(1).and_then(|word| word.parse().ok());
     let rounds = asked.unwrap_or(ROUNDS).max(LEAST_ROUNDS);
-    println!("Medians of {rounds} rounds; ratios are library / Rust, in brackets the lowest and highest of a round.\n");
+    println!("Medians of {rounds} rounds (adding: {LEAST_ROUNDS}); ratios are library / Rust, in brackets a round's lowest and highest.");
+    println!("Sheets and outputs hold the round before and are not cleared; tables are cleared or set back outside the clock.\n");
     println!("| planning, ns a step | library | Rust, every count | up to the greatest | possible only | / every | / up to the greatest | / possible only |");
     println!("|---|---|---|---|---|---|---|---|");
     planning(rounds, "N = 512, all 32", 512, ALL, 1);
     planning(rounds, "N = 512, {4..16}", 512, FOUR_TO_SIXTEEN, 10);
     planning(rounds, "N = 64, {2, 3}", 64, TWO_AND_THREE, 2_000);
+    println!("\nA step is one height × count × thickness, of (N+2·tmax−1) · M · |T|; the source paper's Table I comes to about 4 ns a step.");
     println!("\n| boundaries of each of 1,000 columns | library, ms | Algorithm 1, ms | carrying, ms | / Algorithm 1 | / carrying |");
     println!("|---|---|---|---|---|---|");
     for boundaries in [2, 4, 8, 64] {
-        adding(rounds, boundaries);
+        adding(LEAST_ROUNDS, boundaries);
     }
     println!("\n| N = 512, all 32 unless said | library | Rust | ratio |");
     println!("|---|---|---|---|");
