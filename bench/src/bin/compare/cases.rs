@@ -1,0 +1,367 @@
+// One random case of each call: the input is made, both implementations run on buffers of their own, and the answers and every element of
+// every buffer are compared, those that are only read among them. A case answers the refusal's number, 0 for none, or the difference.
+
+use crate::lent::{same, Lent};
+use bench::library;
+use bench::make;
+use bench::plain::{self, Filled, Plate, Second, Sheets};
+use bench::random::Random;
+
+pub type Outcome = Result<u32, String>;
+
+pub struct Call {
+    pub name: &'static str,
+    pub refusals: &'static [u32],
+    pub case: fn(&mut Random) -> Outcome,
+}
+
+pub const CALLS: &[Call] = &[
+    Call { name: "sizes", refusals: &[1, 2], case: sizes },
+    Call { name: "clear table", refusals: &[1, 2, 3], case: clear_table },
+    Call { name: "add column", refusals: &[1, 2, 3, 7, 4, 5, 6], case: add_column },
+    Call { name: "join tables", refusals: &[1, 2, 8, 3, 7, 6], case: join_tables },
+    Call { name: "take off", refusals: &[1, 2, 8, 3, 7, 6, 9], case: take_off },
+    Call { name: "plan", refusals: &[1, 2, 3, 7, 6], case: plan },
+    Call { name: "read back", refusals: &[1, 2, 3, 10, 11, 12], case: read_back },
+    Call { name: "recount", refusals: &[1, 2, 3, 7, 6, 13], case: recount },
+    Call { name: "picture", refusals: &[1, 2, 4, 5, 13], case: picture },
+    Call { name: "motor height", refusals: &[14, 15], case: motor_height },
+    Call { name: "read job", refusals: &[16, 1, 2, 17, 4, 5, 3], case: read_job },
+];
+
+/// The difference, with the case that shows it.
+pub fn told(difference: Result<(), String>, number: u32, case: impl Fn() -> String) -> Outcome {
+    match difference {
+        Ok(()) => Ok(number),
+        Err(difference) => Err(format!("{difference}\n  in {}", case())),
+    }
+}
+
+fn sizes(random: &mut Random) -> Outcome {
+    let size = make::size(random);
+    let plate = make::plate(random, size);
+    let (height, set) = make::named(random, plate);
+    sizes_of(height, set)
+}
+
+pub fn sizes_of(height: u32, set: u32) -> Outcome {
+    let expected = [plain::cells(height, set), plain::entries(height, set), plain::counts(height, set)];
+    let actual = [library::cells(height, set), library::entries(height, set), library::counts(height, set)];
+    let difference = same(expected.map(library::as_reply), actual);
+    told(difference, actual[0].number, || format!("sizes of height {height}, set {set:#x}"))
+}
+
+fn clear_table(random: &mut Random) -> Outcome {
+    let size = make::size(random);
+    let plate = make::plate(random, size);
+    let (height, set) = make::named(random, plate);
+    let length = make::length(random, plate.cells());
+    let mut expected: Lent<u32> = Lent::random(random, length);
+    let mut actual = expected.clone();
+    let answer = library::as_tabled(plain::clear_table(expected.part_mut(), height, set));
+    let library = library::clear_table(actual.part_mut(), height, set);
+    let difference = same(answer, library).and_then(|()| actual.agrees("table", &expected));
+    told(difference, answer.number, || format!("height {height}, set {set:#x}, {length} cells lent"))
+}
+
+fn add_column(random: &mut Random) -> Outcome {
+    let size = make::size(random);
+    let plate = make::plate(random, size);
+    let mut table = make::table(random, plate, size);
+    make::damage_table(random, plate, &mut table);
+    let (height, set) = make::named(random, plate);
+    let length = make::length(random, plate.cells());
+    let mut expected = Lent::new(random, &table.cells, length);
+    let column = make::handed_column(random, plate);
+    let column = Lent::given(random, &column);
+    added(&mut expected.clone(), &mut expected, height, set, table.columns, &column)
+}
+
+/// Adds to both tables and compares.
+pub fn added(
+    actual: &mut Lent<u32>,
+    expected: &mut Lent<u32>,
+    height: u32,
+    set: u32,
+    columns: u32,
+    column: &Lent<u16>,
+) -> Outcome {
+    let handed = column.clone();
+    let before = expected.clone();
+    let answer = library::as_tabled(plain::add_column(expected.part_mut(), height, set, columns, column.part()));
+    let library = library::add_column(actual.part_mut(), height, set, columns, handed.part());
+    let difference = same(answer, library)
+        .and_then(|()| actual.agrees("table", expected))
+        .and_then(|()| handed.agrees("column", column));
+    told(difference, answer.number, || {
+        let (column, table) = (column.text(), before.text());
+        format!("height {height}, set {set:#x}, columns {columns}, column {column}, table {table}")
+    })
+}
+
+type Joining = (
+    fn(&mut [u32], u32, u32, u32, Second) -> plain::Answer<u32>,
+    fn(&mut [u32], u32, u32, u32, Second) -> library::Tabled,
+);
+
+fn join_tables(random: &mut Random) -> Outcome {
+    let size = make::size(random);
+    let plate = make::plate(random, size);
+    let first = make::table(random, plate, size);
+    let second = make::table(random, plate, size);
+    two_tables(random, plate, first, second, (plain::join_tables, library::join_tables))
+}
+
+fn take_off(random: &mut Random) -> Outcome {
+    let size = make::size(random);
+    let plate = make::plate(random, size);
+    let mut first = make::table(random, plate, size);
+    let second = make::table(random, plate, size);
+    if !random.one_in(4) {
+        joined(plate, &mut first, &second);
+    }
+    two_tables(random, plate, first, second, (plain::take_off, library::take_off))
+}
+
+/// The second joined into the first, where that is not refused.
+fn joined(plate: Plate, first: &mut make::Table, second: &make::Table) {
+    let (height, set) = (plate.height as u32, plate.set);
+    let other = Second { cells: &second.cells, height, set, columns: second.columns };
+    if let Ok(sum) = plain::join_tables(&mut first.cells, height, set, first.columns, other) {
+        first.columns = sum;
+    }
+}
+
+fn two_tables(
+    random: &mut Random,
+    plate: Plate,
+    mut first: make::Table,
+    mut second: make::Table,
+    calls: Joining,
+) -> Outcome {
+    make::damage_table(random, plate, &mut first);
+    make::damage_table(random, plate, &mut second);
+    let (height, set) = make::named(random, plate);
+    let (other_height, other_set) = if random.one_in(2) { (height, set) } else { make::named(random, plate) };
+    let lengths = [make::length(random, plate.cells()), make::length(random, plate.cells())];
+    let mut expected = Lent::new(random, &first.cells, lengths[0]);
+    let mut actual = expected.clone();
+    let other = Lent::new(random, &second.cells, lengths[1]);
+    let handed = other.clone();
+    let before = expected.clone();
+    let with = |cells| Second { cells, height: other_height, set: other_set, columns: second.columns };
+    let answer = library::as_tabled(calls.0(expected.part_mut(), height, set, first.columns, with(other.part())));
+    let library = calls.1(actual.part_mut(), height, set, first.columns, with(handed.part()));
+    let difference = same(answer, library)
+        .and_then(|()| actual.agrees("first table", &expected))
+        .and_then(|()| handed.agrees("second table", &other));
+    told(difference, answer.number, || {
+        let (first_text, second_text) = (before.text(), other.text());
+        let first_is = format!("height {height}, set {set:#x}, columns {}, table {first_text}", first.columns);
+        let columns = second.columns;
+        format!("{first_is}; height {other_height}, set {other_set:#x}, columns {columns}, table {second_text}")
+    })
+}
+
+/// The three buffers that a plan fills.
+#[derive(Clone)]
+pub struct LentSheets {
+    pub errors: Lent<u64>,
+    pub thicknesses: Lent<u8>,
+    pub list: Lent<u64>,
+}
+
+impl LentSheets {
+    pub fn random(random: &mut Random, lengths: [usize; 3]) -> LentSheets {
+        LentSheets {
+            errors: Lent::random(random, lengths[0]),
+            thicknesses: Lent::random(random, lengths[1]),
+            list: Lent::random(random, lengths[2]),
+        }
+    }
+
+    pub fn parts(&mut self) -> Sheets<'_> {
+        Sheets { errors: self.errors.part_mut(), thicknesses: self.thicknesses.part_mut(), list: self.list.part_mut() }
+    }
+
+    pub fn filled(&self) -> Filled<'_> {
+        Filled { errors: self.errors.part(), thicknesses: self.thicknesses.part() }
+    }
+
+    pub fn agrees(&self, expected: &LentSheets) -> Result<(), String> {
+        self.errors.agrees("error sheet", &expected.errors)?;
+        self.thicknesses.agrees("thickness sheet", &expected.thicknesses)?;
+        self.list.agrees("list", &expected.list)
+    }
+}
+
+fn plan(random: &mut Random) -> Outcome {
+    let size = make::size(random);
+    let plate = make::plate(random, size);
+    let mut table = make::table(random, plate, size);
+    let bound = make::bound(random, &table);
+    make::damage_table(random, plate, &mut table);
+    let (height, set) = make::named(random, plate);
+    let length = make::length(random, plate.cells());
+    let cells = Lent::new(random, &table.cells, length);
+    let lengths = [plate.entries(), plate.entries(), plate.counts()].map(|stated| make::length(random, stated));
+    let mut expected = LentSheets::random(random, lengths);
+    planned(&mut expected.clone(), &mut expected, &cells, (height, set, table.columns, bound))
+}
+
+/// Plans into both and compares; the numbers are height, set, columns and bound.
+pub fn planned(
+    actual: &mut LentSheets,
+    expected: &mut LentSheets,
+    cells: &Lent<u32>,
+    numbers: (u32, u32, u32, u32),
+) -> Outcome {
+    let (height, set, columns, bound) = numbers;
+    let handed = cells.clone();
+    let answer = library::as_reply(plain::plan(cells.part(), height, set, columns, bound, expected.parts()));
+    let library = library::plan(handed.part(), height, set, columns, bound, actual.parts());
+    let difference =
+        same(answer, library).and_then(|()| actual.agrees(expected)).and_then(|()| handed.agrees("table", cells));
+    told(difference, answer.number, || {
+        let lengths = (actual.errors.part().len(), actual.thicknesses.part().len(), actual.list.part().len());
+        let table = cells.text();
+        format!("height {height}, set {set:#x}, columns {columns}, bound {bound}, lent {lengths:?}, table {table}")
+    })
+}
+
+fn read_back(random: &mut Random) -> Outcome {
+    let size = make::size(random);
+    let plate = make::plate(random, size);
+    let table = make::table(random, plate, size);
+    let bound = make::bound(random, &table);
+    let mut sheets = make::sheets(plate, &table, bound);
+    make::damage_sheets(random, plate, &mut sheets);
+    let (height, set) = make::named(random, plate);
+    let count = make::count(random, plate);
+    let lengths = [plate.entries(), plate.entries(), count.min(600) as usize + 1];
+    let [errors, thicknesses, out] = lengths.map(|stated| make::length(random, stated));
+    let sheets = LentSheets {
+        errors: Lent::new(random, &sheets.errors, errors),
+        thicknesses: Lent::new(random, &sheets.thicknesses, thicknesses),
+        list: Lent::random(random, 0),
+    };
+    let out = Lent::random(random, out);
+    read(&sheets.clone(), &sheets, &out, height, set, count)
+}
+
+/// Reads a count back from both sheets and compares.
+pub fn read(actual: &LentSheets, expected: &LentSheets, out: &Lent<i32>, height: u32, set: u32, count: u32) -> Outcome {
+    let (mut wanted, mut got) = (out.clone(), out.clone());
+    let answer = library::as_reply(plain::read_back(height, set, expected.filled(), count, wanted.part_mut()));
+    let library = library::read_back(height, set, actual.filled(), count, got.part_mut());
+    let difference =
+        same(answer, library).and_then(|()| got.agrees("output", &wanted)).and_then(|()| actual.agrees(expected));
+    told(difference, answer.number, || {
+        let (errors, thicknesses, out) = (expected.errors.text(), expected.thicknesses.text(), out.part().len());
+        format!(
+            "height {height}, set {set:#x}, count {count}, output {out}, errors {errors}, thicknesses {thicknesses}"
+        )
+    })
+}
+
+fn recount(random: &mut Random) -> Outcome {
+    let size = make::size(random);
+    let plate = make::plate(random, size);
+    let mut table = make::table(random, plate, size);
+    let bound = if random.one_in(2) { u32::MAX } else { make::bound(random, &table) };
+    if random.one_in(2) {
+        make::damage_table(random, plate, &mut table);
+    }
+    let (height, set) = make::named(random, plate);
+    let length = make::length(random, plate.cells());
+    let cells = Lent::new(random, &table.cells, length);
+    let sequence = make::sequence(random, plate);
+    let sequence = Lent::given(random, &sequence);
+    recounted(&cells, (height, set, table.columns, bound), &sequence)
+}
+
+/// Recounts by both and compares; the numbers are height, set, columns and bound.
+pub fn recounted(cells: &Lent<u32>, numbers: (u32, u32, u32, u32), sequence: &Lent<i32>) -> Outcome {
+    let (height, set, columns, bound) = numbers;
+    let (handed_cells, handed) = (cells.clone(), sequence.clone());
+    let answer = library::as_reply(plain::recount(cells.part(), height, set, columns, bound, sequence.part()));
+    let library = library::recount(handed_cells.part(), height, set, columns, bound, handed.part());
+    let difference = same(answer, library)
+        .and_then(|()| handed_cells.agrees("table", cells))
+        .and_then(|()| handed.agrees("sequence", sequence));
+    told(difference, answer.number, || {
+        let (table, sequence) = (cells.text(), sequence.text());
+        format!("height {height}, set {set:#x}, columns {columns}, bound {bound}, sequence {sequence}, table {table}")
+    })
+}
+
+fn picture(random: &mut Random) -> Outcome {
+    let size = make::size(random);
+    let plate = make::plate(random, size);
+    let (height, set) = make::named(random, plate);
+    let column = make::handed_column(random, plate);
+    let column = Lent::given(random, &column);
+    let some = random.within(plate.lowest() - 1, plate.last_start() + 1) as i32;
+    let any = random.word() as i32;
+    let start = if random.one_in(20) { random.pick(&[i32::MIN, i32::MAX, any]) } else { some };
+    let thickness = random.within(0, 33.min(plate.tmax + 1)) as u32;
+    let any = random.word() as u32;
+    let thickness = if random.one_in(20) { random.pick(&[u32::MAX, 32, 64, any]) } else { thickness };
+    pictured(height, set, &column, start, thickness)
+}
+
+pub fn pictured(height: u32, set: u32, column: &Lent<u16>, start: i32, thickness: u32) -> Outcome {
+    let handed = column.clone();
+    let answer = library::as_pictured(plain::picture(height, set, column.part(), start, thickness));
+    let library = library::picture(height, set, handed.part(), start, thickness);
+    let difference = same(answer, library).and_then(|()| handed.agrees("column", column));
+    told(difference, answer.number, || {
+        let column = column.text();
+        format!("height {height}, set {set:#x}, column {column}, start {start}, thickness {thickness}")
+    })
+}
+
+fn motor_height(random: &mut Random) -> Outcome {
+    let (any, some) = (random.word() as u32, random.within(1, 8_192) as u32);
+    let step = random.pick(&[some, some, some, 0, 8_192, 8_193, u32::MAX, any]);
+    let (any, some) = (random.word() as i32, random.within(-40, 550) as i32);
+    let boundary = random.pick(&[some, some, some, -32, -31, 543, 544, i32::MIN, i32::MAX, any]);
+    lifted(step, boundary)
+}
+
+pub fn lifted(step: u32, boundary: i32) -> Outcome {
+    let answer = library::as_lifted(plain::motor_height(step, boundary));
+    let difference = same(answer, library::motor_height(step, boundary));
+    told(difference, answer.number, || format!("motor height of step {step}, boundary {boundary}"))
+}
+
+fn read_job(random: &mut Random) -> Outcome {
+    let size = make::size(random);
+    let plate = make::plate(random, size);
+    let file = make::file(random, plate);
+    let file = Lent::given(random, &file);
+    let (cells, entries) = (plate.cells(), plate.entries());
+    let greater = cells.max(entries);
+    let most = if random.one_in(6) {
+        random.pick(&[greater - 1, greater, cells, entries, 4_096, 0])
+    } else {
+        usize::MAX - random.index(2)
+    };
+    let length = make::length(random, cells);
+    let table = Lent::random(random, length);
+    loaded(&file, most, &table)
+}
+
+pub fn loaded(file: &Lent<u8>, most: usize, table: &Lent<u32>) -> Outcome {
+    let (handed, mut expected, mut actual) = (file.clone(), table.clone(), table.clone());
+    let answer = library::as_loaded(plain::read_job(file.part(), most, expected.part_mut()));
+    let library = library::read_job(handed.part(), most, actual.part_mut());
+    let difference = same(answer, library)
+        .and_then(|()| actual.agrees("table", &expected))
+        .and_then(|()| handed.agrees("file", file));
+    told(difference, answer.number, || {
+        let bytes: String = file.part().iter().take(2_000).map(|byte| format!("{byte:02x}")).collect();
+        let (length, cells) = (file.part().len(), table.part().len());
+        format!("most {most}, {cells} cells lent, file of {length} bytes {bytes}")
+    })
+}

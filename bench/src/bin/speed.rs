@@ -1,0 +1,304 @@
+// Times the proved library beside quick Rust in one process: in each round every contender runs once, in turning order, and the medians over
+// the rounds are set side by side. Each has buffers of its own, touched before; sheets still hold the plan before and are not cleared, a
+// table to be added to is cleared outside the clock. What the contenders leave is compared before the clock starts.
+
+use bench::library;
+use bench::make::{self, Table};
+use bench::plain::{Answer, Filled, Plate, Second, Sheets};
+use bench::quick::{self, Reach};
+use bench::random::Random;
+use std::hint::black_box;
+use std::time::{Duration, Instant};
+
+const SEED: u64 = 7;
+const ROUNDS: usize = 101;
+const LEAST_ROUNDS: usize = 9;
+const ALL: u32 = u32::MAX;
+const FOUR_TO_SIXTEEN: u32 = 0xFFF8;
+const TWO_AND_THREE: u32 = 6;
+
+// ---- Timing ----
+
+/// Runs once, and says how long the part within the clock took.
+type Contender = Box<dyn FnMut() -> Duration>;
+
+/// Nanoseconds of each contender in each round.
+struct Times {
+    rounds: Vec<Vec<f64>>,
+}
+
+fn time(rounds: usize, mut contenders: Vec<Contender>) -> Times {
+    let number = contenders.len();
+    contenders.iter_mut().for_each(|contender| {
+        contender();
+    });
+    let mut times = Times { rounds: Vec::new() };
+    for round in 0..rounds {
+        let mut row = vec![0.0; number];
+        for turn in 0..number {
+            let i = (round + turn) % number;
+            row[i] = contenders[i]().as_nanos() as f64;
+        }
+        times.rounds.push(row);
+    }
+    times
+}
+
+fn median(mut values: Vec<f64>) -> f64 {
+    values.sort_by(f64::total_cmp);
+    values[values.len() / 2]
+}
+
+impl Times {
+    fn of(&self, i: usize) -> f64 {
+        median(self.rounds.iter().map(|row| row[i]).collect())
+    }
+
+    /// The library's median over the other's, and the lowest and highest ratio of a round.
+    fn ratio(&self, i: usize) -> String {
+        let each: Vec<f64> = self.rounds.iter().map(|row| row[0] / row[i]).collect();
+        let (low, high) = each.iter().fold((f64::MAX, 0.0_f64), |(l, h), &r| (l.min(r), h.max(r)));
+        format!("**{:.2}** ({low:.2} to {high:.2})", self.of(0) / self.of(i))
+    }
+}
+
+fn clocked(work: impl FnOnce()) -> Duration {
+    let begun = Instant::now();
+    work();
+    begun.elapsed()
+}
+
+// ---- Planning ----
+
+type Planner = fn(&[u32], Plate, u32, Sheets) -> u64;
+
+fn by_library(cells: &[u32], plate: Plate, columns: u32, sheets: Sheets) -> u64 {
+    let reply = library::plan(cells, plate.height as u32, plate.set, columns, u32::MAX, sheets);
+    assert_eq!(reply.number, 0);
+    reply.value
+}
+
+fn by_rust(reach: Reach, cells: &[u32], plate: Plate, columns: u32, sheets: Sheets) -> u64 {
+    let answer = quick::plan(reach, cells, plate.height as u32, plate.set, columns, u32::MAX, sheets);
+    answer.expect("the table is good")
+}
+
+const PLANNERS: [Planner; 4] = [
+    by_library,
+    |cells, plate, columns, sheets| by_rust(Reach::Every, cells, plate, columns, sheets),
+    |cells, plate, columns, sheets| by_rust(Reach::UpToGreatest, cells, plate, columns, sheets),
+    |cells, plate, columns, sheets| by_rust(Reach::PossibleOnly, cells, plate, columns, sheets),
+];
+
+fn plan_into(planner: Planner, plate: Plate, table: &Table, sheets: &mut make::Sheets) -> u64 {
+    let lent = Sheets { errors: &mut sheets.errors, thicknesses: &mut sheets.thicknesses, list: &mut sheets.list };
+    planner(&table.cells, plate, table.columns, lent)
+}
+
+fn planning_contender(planner: Planner, plate: Plate, table: &Table, expected: &make::Sheets, times: u32) -> Contender {
+    let table = table.clone();
+    let mut sheets = make::Sheets {
+        errors: vec![1; plate.entries()],
+        thicknesses: vec![1; plate.entries()],
+        list: vec![1; plate.counts()],
+    };
+    plan_into(planner, plate, &table, &mut sheets);
+    assert!(sheets.errors == expected.errors && sheets.thicknesses == expected.thicknesses);
+    assert!(sheets.list == expected.list);
+    Box::new(move || {
+        clocked(|| {
+            for _ in 0..times {
+                black_box(plan_into(planner, plate, black_box(&table), &mut sheets));
+            }
+        })
+    })
+}
+
+fn planning(rounds: usize, name: &str, height: u32, set: u32, times: u32) {
+    let plate = Plate::new(height, set).expect("allowed");
+    let table = some_table(plate, 200);
+    let expected = make::sheets(plate, &table, u32::MAX);
+    let contender = |planner| planning_contender(planner, plate, &table, &expected, times);
+    let taken = time(rounds, PLANNERS.map(contender).into());
+    let heights = (plate.highest() - plate.lowest() + 1) as f64;
+    let steps = heights * plate.counts() as f64 * f64::from(plate.set.count_ones()) * f64::from(times);
+    let each: Vec<String> = (0..4).map(|i| format!("{:.2}", taken.of(i) / steps)).collect();
+    let ratios: Vec<String> = (1..4).map(|i| taken.ratio(i)).collect();
+    println!("| {name} | {} | {} |", each.join(" | "), ratios.join(" | "));
+}
+
+fn some_table(plate: Plate, columns: u64) -> Table {
+    let mut random = Random::new(SEED, columns);
+    let columns = make::columns(&mut random, plate, columns);
+    make::tabulate(plate, &columns)
+}
+
+// ---- Adding ----
+
+type Adder = fn(&mut [u32], u32, u32, u32, &[u16]) -> u32;
+
+fn good(answer: Answer<u32>) -> u32 {
+    answer.expect("the input is good")
+}
+
+fn tabled(answer: library::Tabled) -> u32 {
+    assert_eq!(answer.number, 0);
+    answer.columns
+}
+
+const ADDERS: [Adder; 3] = [
+    |table, height, set, columns, column| tabled(library::add_column(table, height, set, columns, column)),
+    |table, height, set, columns, column| good(quick::add_by_algorithm_1(table, height, set, columns, column)),
+    |table, height, set, columns, column| good(quick::add_carrying(table, height, set, columns, column)),
+];
+
+fn add_all(adder: Adder, plate: Plate, cells: &mut [u32], columns: &[Vec<u16>]) -> u32 {
+    let (height, set) = (plate.height as u32, plate.set);
+    columns.iter().fold(0, |count, column| adder(cells, height, set, count, column))
+}
+
+fn adding(rounds: usize, boundaries: usize) {
+    let plate = Plate::new(512, ALL).expect("allowed");
+    let columns = columns_of(plate, boundaries);
+    let expected = make::tabulate(plate, &columns).cells;
+    let contender = |adder: Adder| -> Contender {
+        let columns = columns.clone();
+        let mut cells = vec![0; plate.cells()];
+        add_all(adder, plate, &mut cells, &columns);
+        assert!(cells == expected);
+        Box::new(move || {
+            cells.fill(0);
+            clocked(|| {
+                black_box(add_all(adder, plate, &mut cells, black_box(&columns)));
+            })
+        })
+    };
+    let taken = time(rounds, ADDERS.map(contender).into());
+    let each: Vec<String> = (0..3).map(|i| format!("{:.2}", taken.of(i) / 1_000_000.0)).collect();
+    println!("| {boundaries} | {} | {} | {} |", each.join(" | "), taken.ratio(1), taken.ratio(2));
+}
+
+/// 1,000 columns of so many boundaries each, spread over the height at random.
+fn columns_of(plate: Plate, boundaries: usize) -> Vec<Vec<u16>> {
+    let mut random = Random::new(SEED, boundaries as u64);
+    let mut column = || {
+        let mut heights: Vec<u16> = (0..=plate.height as u16).collect();
+        while heights.len() > boundaries {
+            heights.remove(random.index(heights.len()));
+        }
+        heights
+    };
+    (0..1_000).map(|_| column()).collect()
+}
+
+// ---- Joining, taking off, reading back ----
+
+const JOINS: u32 = 200;
+
+type Joiner = fn(&mut [u32], u32, u32, u32, Second) -> u32;
+
+const JOINERS: [Joiner; 2] = [
+    |table, height, set, columns, second| tabled(library::join_tables(table, height, set, columns, second)),
+    |table, height, set, columns, second| good(quick::join_tables(table, height, set, columns, second)),
+];
+
+const TAKERS: [Joiner; 2] = [
+    |table, height, set, columns, second| tabled(library::take_off(table, height, set, columns, second)),
+    |table, height, set, columns, second| good(quick::take_off(table, height, set, columns, second)),
+];
+
+fn row(name: &str, unit: f64, taken: &Times) {
+    let (library, rust) = (taken.of(0) / unit, taken.of(1) / unit);
+    println!("| {name} | {library:.1} | {rust:.1} | {} |", taken.ratio(1));
+}
+
+/// The same table of 100 columns, joined 200 times or taken off 200 times; the first table is set back outside the clock.
+fn joining(rounds: usize, name: &str, joiners: [Joiner; 2], first: &Table, expected: &Table) {
+    let plate = Plate::new(512, ALL).expect("allowed");
+    let second = some_table(plate, 100);
+    let contender = |joiner: Joiner| -> Contender {
+        let (first, second, expected) = (first.clone(), second.clone(), expected.clone());
+        let mut table = first.clone();
+        Box::new(move || {
+            table.clone_from(&first);
+            let taken = clocked(|| {
+                for _ in 0..JOINS {
+                    let other = Second { cells: &second.cells, height: 512, set: ALL, columns: second.columns };
+                    table.columns = joiner(&mut table.cells, 512, ALL, table.columns, black_box(other));
+                }
+            });
+            assert!(table.columns == expected.columns && table.cells == expected.cells);
+            taken
+        })
+    };
+    row(name, 1_000.0 * f64::from(JOINS), &time(rounds, joiners.map(contender).into()));
+}
+
+fn joining_and_taking_off(rounds: usize) {
+    let plate = Plate::new(512, ALL).expect("allowed");
+    let one = some_table(plate, 100);
+    let times = JOINS + 1;
+    let many = Table { cells: one.cells.iter().map(|cell| cell * times).collect(), columns: one.columns * times };
+    joining(rounds, "joining, µs a call", JOINERS, &one, &many);
+    joining(rounds, "taking off, µs a call", TAKERS, &many, &one);
+}
+
+type Reader = fn(Plate, Filled, u32, &mut [i32]) -> u64;
+
+const READERS: [Reader; 2] = [
+    |plate, sheets, count, out| library::read_back(plate.height as u32, plate.set, sheets, count, out).value,
+    |plate, sheets, count, out| {
+        let answer = quick::read_back(plate.height as u32, plate.set, sheets, count, out);
+        answer.unwrap_or_else(|refusal| refusal.place)
+    },
+];
+
+fn read_all(reader: Reader, plate: Plate, sheets: &make::Sheets, out: &mut [i32]) -> u64 {
+    let filled = Filled { errors: &sheets.errors, thicknesses: &sheets.thicknesses };
+    (1..=plate.counts()).fold(0, |sum, count| sum + reader(plate, filled, count as u32, out))
+}
+
+fn reading_back(rounds: usize, name: &str, height: u32, set: u32, times: u32) {
+    let plate = Plate::new(height, set).expect("allowed");
+    let table = some_table(plate, 200);
+    let contender = |reader: Reader| -> Contender {
+        let sheets = make::sheets(plate, &table, u32::MAX);
+        let mut out = vec![0; plate.counts() + 1];
+        let sum: u64 = sheets.list.iter().filter(|&&error| error < u64::MAX).sum();
+        assert_eq!(read_all(reader, plate, &sheets, &mut out), sum);
+        Box::new(move || {
+            clocked(|| {
+                for _ in 0..times {
+                    black_box(read_all(reader, plate, black_box(&sheets), &mut out));
+                }
+            })
+        })
+    };
+    let unit = 1_000.0 * f64::from(times);
+    row(name, unit, &time(rounds, READERS.map(contender).into()));
+}
+
+// ---- The tables ----
+
+fn main() {
+    let asked = std::env::args().nth(1).and_then(|word| word.parse().ok());
+    let rounds = asked.unwrap_or(ROUNDS).max(LEAST_ROUNDS);
+    println!("Medians of {rounds} rounds (adding: {LEAST_ROUNDS}); ratios are library / Rust, in brackets a round's lowest and highest.");
+    println!("Sheets and outputs hold the round before and are not cleared; tables are cleared or set back outside the clock.\n");
+    println!("| planning, ns a step | library | Rust, every count | up to the greatest | possible only | / every | / up to the greatest | / possible only |");
+    println!("|---|---|---|---|---|---|---|---|");
+    planning(rounds, "N = 512, all 32", 512, ALL, 1);
+    planning(rounds, "N = 512, {4..16}", 512, FOUR_TO_SIXTEEN, 10);
+    planning(rounds, "N = 64, {2, 3}", 64, TWO_AND_THREE, 2_000);
+    println!("\nA step is one height × count × thickness, of (N+2·tmax−1) · M · |T|; the source paper's Table I comes to about 4 ns a step.");
+    println!("\n| boundaries of each of 1,000 columns | library, ms | Algorithm 1, ms | carrying, ms | / Algorithm 1 | / carrying |");
+    println!("|---|---|---|---|---|---|");
+    for boundaries in [2, 4, 8, 64] {
+        adding(LEAST_ROUNDS, boundaries);
+    }
+    println!("\n| N = 512, all 32 unless said | library | Rust | ratio |");
+    println!("|---|---|---|---|");
+    joining_and_taking_off(rounds);
+    reading_back(rounds, "reading back every count, µs", 512, ALL, 5);
+    reading_back(rounds, "reading back every count, {4..16}, µs", 512, FOUR_TO_SIXTEEN, 20);
+}

@@ -1,0 +1,163 @@
+// Document 01 a second time, by listing: every admissible sequence of a small plate is written out, and the chosen one is picked by the
+// definition. Errors come straight from the columns, voxel by voxel; no table and no sheet is used. Shares no code with plain.rs.
+
+use std::collections::BTreeMap;
+
+pub struct Plate {
+    pub height: i64,
+    pub set: Vec<i64>,
+    pub columns: Vec<Vec<u16>>,
+    pub bound: u32,
+}
+
+/// Boundaries z0 < z1 < … < zn within the starts and the bound, and the sum of its layers' errors.
+#[derive(Clone, Debug, PartialEq, Eq)]
+pub struct Sequence {
+    pub boundaries: Vec<i64>,
+    pub error: u64,
+}
+
+impl Sequence {
+    pub fn count(&self) -> usize {
+        self.boundaries.len() - 1
+    }
+
+    pub fn end(&self) -> i64 {
+        self.boundaries[self.count()]
+    }
+
+    /// From the last layer down.
+    pub fn thicknesses(&self) -> Vec<i64> {
+        self.boundaries.windows(2).rev().map(|pair| pair[1] - pair[0]).collect()
+    }
+
+    /// Least error first, then the smallest zn, then the thinnest last layer, and so on down.
+    fn better_than(&self, other: &Sequence) -> bool {
+        let rank = |s: &Sequence| (s.error, s.end(), s.thicknesses());
+        rank(self) < rank(other)
+    }
+}
+
+fn is_inside(column: &[u16], voxel: i64) -> bool {
+    let mut inside = false;
+    for &boundary in column {
+        if i64::from(boundary) <= voxel {
+            inside = !inside;
+        }
+    }
+    inside
+}
+
+/// A column's inside and outside counts in a layer.
+pub fn inside_outside(column: &[u16], start: i64, thickness: i64) -> (u32, u32) {
+    let mut counts = (0, 0);
+    for voxel in start..start + thickness {
+        if is_inside(column, voxel) {
+            counts.0 += 1;
+        } else {
+            counts.1 += 1;
+        }
+    }
+    counts
+}
+
+pub fn layer_error(columns: &[Vec<u16>], start: i64, thickness: i64) -> u32 {
+    let share = |column: &Vec<u16>| {
+        let (inside, outside) = inside_outside(column, start, thickness);
+        inside.min(outside)
+    };
+    columns.iter().map(share).sum()
+}
+
+impl Plate {
+    pub fn tmin(&self) -> i64 {
+        *self.set.iter().min().expect("the set is not empty")
+    }
+
+    pub fn tmax(&self) -> i64 {
+        *self.set.iter().max().expect("the set is not empty")
+    }
+
+    pub fn greatest_count(&self) -> usize {
+        let room = self.height + 2 * self.tmax() - 2;
+        (room / self.tmin()) as usize
+    }
+
+    pub fn table(&self) -> Vec<u32> {
+        let mut cells = Vec::new();
+        for start in 1 - self.tmax()..=self.height + self.tmax() - 2 {
+            for thickness in 1..=self.tmax() {
+                let allowed = self.set.contains(&thickness);
+                cells.push(if allowed { layer_error(&self.columns, start, thickness) } else { 0 });
+            }
+        }
+        cells
+    }
+
+    /// Every sequence that starts as it may, keeps to T and the bound, and ends below N+tmax; those that end below N are among them.
+    pub fn every_sequence(&self) -> Vec<Sequence> {
+        let mut errors = BTreeMap::new();
+        let mut all = Vec::new();
+        for first in 1 - self.tmax()..=0 {
+            let start = Sequence { boundaries: vec![first], error: 0 };
+            self.extend(&start, &mut errors, &mut all);
+        }
+        all
+    }
+
+    fn extend(&self, below: &Sequence, errors: &mut BTreeMap<(i64, i64), u32>, all: &mut Vec<Sequence>) {
+        let start = below.end();
+        for &thickness in &self.set {
+            let error =
+                *errors.entry((start, thickness)).or_insert_with(|| layer_error(&self.columns, start, thickness));
+            if start + thickness < self.height + self.tmax() && error <= self.bound {
+                let mut longer = below.clone();
+                longer.boundaries.push(start + thickness);
+                longer.error += u64::from(error);
+                self.extend(&longer, errors, all);
+                all.push(longer);
+            }
+        }
+    }
+
+    pub fn is_admissible(&self, boundaries: &[i64]) -> bool {
+        if boundaries.len() < 2 {
+            return false;
+        }
+        let (first, last) = (boundaries[0], boundaries[boundaries.len() - 1]);
+        let layer = |pair: &[i64]| {
+            let thickness = pair[1] - pair[0];
+            self.set.contains(&thickness) && layer_error(&self.columns, pair[0], thickness) <= self.bound
+        };
+        let ends = -self.tmax() < first && first <= 0 && self.height <= last && last < self.height + self.tmax();
+        ends && boundaries.windows(2).all(layer)
+    }
+}
+
+/// The chosen sequence of each count and end, and of each count among those that end at N or above.
+pub struct Chosen {
+    pub ending: BTreeMap<(i64, usize), Sequence>,
+    pub whole: BTreeMap<usize, Sequence>,
+}
+
+pub fn choose(plate: &Plate, all: &[Sequence]) -> Chosen {
+    let mut ending = BTreeMap::new();
+    let mut whole = BTreeMap::new();
+    for sequence in all {
+        keep_better(&mut ending, (sequence.end(), sequence.count()), sequence);
+        if sequence.end() >= plate.height {
+            keep_better(&mut whole, sequence.count(), sequence);
+        }
+    }
+    Chosen { ending, whole }
+}
+
+fn keep_better<K: Ord>(kept: &mut BTreeMap<K, Sequence>, key: K, sequence: &Sequence) {
+    let better = match kept.get(&key) {
+        Some(held) => sequence.better_than(held),
+        None => true,
+    };
+    if better {
+        kept.insert(key, sequence.clone());
+    }
+}

@@ -1,0 +1,287 @@
+// The proved library's C interface as the caller sees it: the structs and functions of libshagorent.a, and a safe call around each.
+// The answers are kept as they come, so that the fields that should be 0 are compared too.
+
+use crate::plain::{Answer, Filled, Loaded, Picture, Second, Sheets};
+
+#[repr(C)]
+#[derive(Clone, Copy, Debug, PartialEq, Eq)]
+pub struct Reply {
+    pub number: u32,
+    pub value: u64,
+}
+
+#[repr(C)]
+#[derive(Clone, Copy, Debug, PartialEq, Eq)]
+pub struct Tabled {
+    pub number: u32,
+    pub columns: u32,
+    pub place: u64,
+}
+
+#[repr(C)]
+#[derive(Clone, Copy, Debug, PartialEq, Eq)]
+pub struct Pictured {
+    pub number: u32,
+    pub filled: u32,
+    pub value: u64,
+}
+
+#[repr(C)]
+#[derive(Clone, Copy, Debug)]
+pub struct Lifted {
+    pub number: u32,
+    pub height: f32,
+    pub place: u64,
+}
+
+/// The same bits, so that −0 is not 0.
+impl PartialEq for Lifted {
+    fn eq(&self, other: &Lifted) -> bool {
+        let bits = |l: &Lifted| (l.number, l.height.to_bits(), l.place);
+        bits(self) == bits(other)
+    }
+}
+
+#[repr(C)]
+#[derive(Clone, Copy, Debug, PartialEq, Eq)]
+pub struct JobLoaded {
+    pub number: u32,
+    pub height: u32,
+    pub set: u32,
+    pub bound: u32,
+    pub columns: u32,
+    pub place: u64,
+}
+
+extern "C" {
+    fn shagorent_clear_table(table: *mut u32, n: usize, height: u32, set: u32) -> Tabled;
+    fn shagorent_add_column(
+        table: *mut u32,
+        n: usize,
+        height: u32,
+        set: u32,
+        columns: u32,
+        column: *const u16,
+        boundaries: usize,
+    ) -> Tabled;
+    fn shagorent_join_tables(
+        table: *mut u32,
+        n: usize,
+        height: u32,
+        set: u32,
+        columns: u32,
+        other: *const u32,
+        m: usize,
+        other_height: u32,
+        other_set: u32,
+        other_columns: u32,
+    ) -> Tabled;
+    fn shagorent_take_off(
+        table: *mut u32,
+        n: usize,
+        height: u32,
+        set: u32,
+        columns: u32,
+        other: *const u32,
+        m: usize,
+        other_height: u32,
+        other_set: u32,
+        other_columns: u32,
+    ) -> Tabled;
+    fn shagorent_plan(
+        table: *const u32,
+        n: usize,
+        height: u32,
+        set: u32,
+        columns: u32,
+        bound: u32,
+        errors: *mut u64,
+        e: usize,
+        thicknesses: *mut u8,
+        t: usize,
+        list: *mut u64,
+        l: usize,
+    ) -> Reply;
+    fn shagorent_read_back(
+        height: u32,
+        set: u32,
+        errors: *const u64,
+        e: usize,
+        thicknesses: *const u8,
+        t: usize,
+        count: u32,
+        out: *mut i32,
+        o: usize,
+    ) -> Reply;
+    fn shagorent_recount(
+        table: *const u32,
+        n: usize,
+        height: u32,
+        set: u32,
+        columns: u32,
+        bound: u32,
+        sequence: *const i32,
+        s: usize,
+    ) -> Reply;
+    fn shagorent_picture(
+        height: u32,
+        set: u32,
+        column: *const u16,
+        boundaries: usize,
+        start: i32,
+        thickness: u32,
+    ) -> Pictured;
+    fn shagorent_motor_height(step: u32, boundary: i32) -> Lifted;
+    fn shagorent_read_job(input: *const u8, n: usize, most: usize, table: *mut u32, t: usize) -> JobLoaded;
+    fn shagorent_cells(height: u32, set: u32) -> Reply;
+    fn shagorent_entries(height: u32, set: u32) -> Reply;
+    fn shagorent_counts(height: u32, set: u32) -> Reply;
+}
+
+// ---- What the plain implementation's answers look like across the interface ----
+
+pub fn as_reply(answer: Answer<u64>) -> Reply {
+    match answer {
+        Ok(value) => Reply { number: 0, value },
+        Err(r) => Reply { number: r.number, value: r.place },
+    }
+}
+
+pub fn as_tabled(answer: Answer<u32>) -> Tabled {
+    match answer {
+        Ok(columns) => Tabled { number: 0, columns, place: 0 },
+        Err(r) => Tabled { number: r.number, columns: 0, place: r.place },
+    }
+}
+
+pub fn as_pictured(answer: Answer<Picture>) -> Pictured {
+    match answer {
+        Ok(p) => Pictured { number: 0, filled: u32::from(p.filled), value: u64::from(p.share) },
+        Err(r) => Pictured { number: r.number, filled: 0, value: r.place },
+    }
+}
+
+pub fn as_lifted(answer: Answer<f32>) -> Lifted {
+    match answer {
+        Ok(height) => Lifted { number: 0, height, place: 0 },
+        Err(r) => Lifted { number: r.number, height: 0.0, place: r.place },
+    }
+}
+
+pub fn as_loaded(answer: Answer<Loaded>) -> JobLoaded {
+    let (number, place) = answer.map_or_else(|r| (r.number, r.place), |_| (0, 0));
+    let nothing = Loaded { height: 0, set: 0, bound: 0, columns: 0 };
+    let Loaded { height, set, bound, columns } = answer.unwrap_or(nothing);
+    JobLoaded { number, height, set, bound, columns, place }
+}
+
+// ---- The calls ----
+
+pub fn clear_table(table: &mut [u32], height: u32, set: u32) -> Tabled {
+    unsafe { shagorent_clear_table(table.as_mut_ptr(), table.len(), height, set) }
+}
+
+pub fn add_column(table: &mut [u32], height: u32, set: u32, columns: u32, column: &[u16]) -> Tabled {
+    let (cells, boundaries) = (table.as_mut_ptr(), column.as_ptr());
+    unsafe { shagorent_add_column(cells, table.len(), height, set, columns, boundaries, column.len()) }
+}
+
+pub fn join_tables(table: &mut [u32], height: u32, set: u32, columns: u32, second: Second) -> Tabled {
+    let other = second.cells;
+    unsafe {
+        shagorent_join_tables(
+            table.as_mut_ptr(),
+            table.len(),
+            height,
+            set,
+            columns,
+            other.as_ptr(),
+            other.len(),
+            second.height,
+            second.set,
+            second.columns,
+        )
+    }
+}
+
+pub fn take_off(table: &mut [u32], height: u32, set: u32, columns: u32, second: Second) -> Tabled {
+    let other = second.cells;
+    unsafe {
+        shagorent_take_off(
+            table.as_mut_ptr(),
+            table.len(),
+            height,
+            set,
+            columns,
+            other.as_ptr(),
+            other.len(),
+            second.height,
+            second.set,
+            second.columns,
+        )
+    }
+}
+
+pub fn plan(table: &[u32], height: u32, set: u32, columns: u32, bound: u32, sheets: Sheets) -> Reply {
+    unsafe {
+        shagorent_plan(
+            table.as_ptr(),
+            table.len(),
+            height,
+            set,
+            columns,
+            bound,
+            sheets.errors.as_mut_ptr(),
+            sheets.errors.len(),
+            sheets.thicknesses.as_mut_ptr(),
+            sheets.thicknesses.len(),
+            sheets.list.as_mut_ptr(),
+            sheets.list.len(),
+        )
+    }
+}
+
+pub fn read_back(height: u32, set: u32, sheets: Filled, count: u32, out: &mut [i32]) -> Reply {
+    unsafe {
+        shagorent_read_back(
+            height,
+            set,
+            sheets.errors.as_ptr(),
+            sheets.errors.len(),
+            sheets.thicknesses.as_ptr(),
+            sheets.thicknesses.len(),
+            count,
+            out.as_mut_ptr(),
+            out.len(),
+        )
+    }
+}
+
+pub fn recount(table: &[u32], height: u32, set: u32, columns: u32, bound: u32, sequence: &[i32]) -> Reply {
+    let (cells, boundaries) = (table.as_ptr(), sequence.as_ptr());
+    unsafe { shagorent_recount(cells, table.len(), height, set, columns, bound, boundaries, sequence.len()) }
+}
+
+pub fn picture(height: u32, set: u32, column: &[u16], start: i32, thickness: u32) -> Pictured {
+    unsafe { shagorent_picture(height, set, column.as_ptr(), column.len(), start, thickness) }
+}
+
+pub fn motor_height(step: u32, boundary: i32) -> Lifted {
+    unsafe { shagorent_motor_height(step, boundary) }
+}
+
+pub fn read_job(input: &[u8], most: usize, table: &mut [u32]) -> JobLoaded {
+    unsafe { shagorent_read_job(input.as_ptr(), input.len(), most, table.as_mut_ptr(), table.len()) }
+}
+
+pub fn cells(height: u32, set: u32) -> Reply {
+    unsafe { shagorent_cells(height, set) }
+}
+
+pub fn entries(height: u32, set: u32) -> Reply {
+    unsafe { shagorent_entries(height, set) }
+}
+
+pub fn counts(height: u32, set: u32) -> Reply {
+    unsafe { shagorent_counts(height, set) }
+}

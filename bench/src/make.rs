@@ -1,0 +1,390 @@
+// Random plates, columns, tables, sheets, sequences and job files, good and damaged, small and full size.
+
+use crate::plain::{self, Plate, MOST_COLUMNS};
+use crate::random::Random;
+
+#[derive(Clone, Copy, Debug, PartialEq, Eq)]
+pub enum Size {
+    Tiny,
+    Small,
+    Middle,
+    Full,
+}
+
+pub fn size(random: &mut Random) -> Size {
+    match random.below(200) {
+        0..=99 => Size::Tiny,
+        100..=154 => Size::Small,
+        155..=191 => Size::Middle,
+        _ => Size::Full,
+    }
+}
+
+// ---- Settings ----
+
+pub fn plate(random: &mut Random, size: Size) -> Plate {
+    let (height, tmax) = match size {
+        Size::Tiny => (random.within(1, 8), random.within(1, 5)),
+        Size::Small => (random.within(1, 40), random.within(1, 12)),
+        Size::Middle => (random.within(1, 130), random.within(1, 32)),
+        Size::Full => (random.pick(&[512, 511, 300, 400, 512]), random.pick(&[32, 32, 31, 16, 8])),
+    };
+    Plate::new(height as u32, set(random, tmax)).expect("height and set are allowed")
+}
+
+/// A set with the greatest member `tmax`: all up to it, few, a run, or any.
+fn set(random: &mut Random, tmax: i64) -> u32 {
+    let all = u32::MAX >> (32 - tmax);
+    let top = 1 << (tmax - 1);
+    let (one, other) = (random.word() as u32, random.word() as u32);
+    let run = all & (u32::MAX << random.below(tmax as u64));
+    top | random.pick(&[all, all & one & other, run, all & one, 0])
+}
+
+/// Settings as a caller might name them: mostly the plate's own, now and then refused or another's.
+pub fn named(random: &mut Random, plate: Plate) -> (u32, u32) {
+    let (height, set) = (plate.height as u32, plate.set);
+    let any = random.word() as u32;
+    match random.below(40) {
+        0 => (random.pick(&[0, 513, u32::MAX, 65_536 + height, any]), set),
+        1 => (height, 0),
+        2 => (random.pick(&[0, 513]), 0),
+        3 => (random.pick(&[1, 512, height + 1, height - 1]), random.pick(&[set, set ^ 1, any, 1 << 31])),
+        _ => (height, set),
+    }
+}
+
+// ---- Columns ----
+
+pub fn column(random: &mut Random, height: i64) -> Vec<u16> {
+    let most = (height + 1).min(64) as u64;
+    let some = random.below(most + 1);
+    let mut left = random.pick(&[0, 2, 2, 4, 8, most, some, some]).min(most) & !1;
+    let mut column = Vec::new();
+    for boundary in 0..=height as u64 {
+        if random.below(height as u64 + 1 - boundary) < left {
+            column.push(boundary as u16);
+            left -= 1;
+        }
+    }
+    column
+}
+
+pub fn columns(random: &mut Random, plate: Plate, number: u64) -> Vec<Vec<u16>> {
+    (0..number).map(|_| column(random, plate.height)).collect()
+}
+
+/// A column as a caller might hand it in, mostly good.
+pub fn handed_column(random: &mut Random, plate: Plate) -> Vec<u16> {
+    let mut column = column(random, plate.height);
+    if !random.one_in(4) {
+        return column;
+    }
+    let place = random.index(column.len() + 1);
+    let (top, some) = (plate.height as u16, random.within(0, plate.height) as u16);
+    let value = random.pick(&[0, 65_535, some, top, top + 1]);
+    match random.below(6) {
+        0 => column.insert(place, value),
+        1 if place < column.len() => column[place] = value,
+        2 if place < column.len() => {
+            column.remove(place);
+        }
+        3 => column.extend(vec![value; random.pick(&[1, 2, 63, 64, 65, 66, 200])]),
+        4 => column = (0..random.pick(&[62, 63, 64, 65, 66])).collect(),
+        _ => column.reverse(),
+    }
+    column
+}
+
+// ---- Tables ----
+
+/// A table's cells and the column count that goes with it.
+#[derive(Clone)]
+pub struct Table {
+    pub cells: Vec<u32>,
+    pub columns: u32,
+}
+
+pub fn tabulate(plate: Plate, columns: &[Vec<u16>]) -> Table {
+    let mut table = Table { cells: vec![0; plate.cells()], columns: 0 };
+    for column in columns {
+        let (height, set) = (plate.height as u32, plate.set);
+        let answer = plain::add_column(&mut table.cells, height, set, table.columns, column);
+        table.columns = answer.expect("the column is good");
+    }
+    table
+}
+
+/// In bounds: made of columns, or any cells that the limits let through.
+pub fn table(random: &mut Random, plate: Plate, size: Size) -> Table {
+    if random.one_in(2) {
+        let most = if size == Size::Full { 40 } else { 12 };
+        let number = random.below(most);
+        let columns = columns(random, plate, number);
+        return tabulate(plate, &columns);
+    }
+    let few = random.below(300) as u32;
+    let columns = random.pick(&[few, few, 1, 2, MOST_COLUMNS, MOST_COLUMNS - 1, 500_000, 0]);
+    any_cells(random, plate, columns)
+}
+
+fn any_cells(random: &mut Random, plate: Plate, columns: u32) -> Table {
+    let way = random.below(4);
+    let cell = |i: usize| {
+        let limit = u64::from(plate.limit(i, columns));
+        let value = match way {
+            0 => random.below(limit + 1),
+            1 => random.below(3),
+            2 => limit - random.below(2).min(limit),
+            _ => random.below(100) / 98 * random.below(limit + 1),
+        };
+        value.min(limit) as u32
+    };
+    let cells = (0..plate.cells()).map(cell).collect();
+    Table { cells, columns }
+}
+
+/// Puts some cells or the count out of bounds, or to their edge, now and then.
+pub fn damage_table(random: &mut Random, plate: Plate, table: &mut Table) {
+    if random.one_in(4) {
+        for _ in 0..random.pick(&[1, 1, 2, 5]) {
+            let i = random.index(table.cells.len());
+            let limit = plate.limit(i, table.columns.min(MOST_COLUMNS));
+            let any = random.word() as u32;
+            table.cells[i] = random.pick(&[limit, limit + 1, limit + 1, u32::MAX, any, 1]);
+        }
+    }
+    if random.one_in(12) {
+        let (any, one_less) = (random.word() as u32, table.columns.saturating_sub(1));
+        table.columns = random.pick(&[0, one_less, one_less, 999_999, 1_000_000, 1_000_001, u32::MAX, any]);
+    }
+}
+
+pub fn bound(random: &mut Random, table: &Table) -> u32 {
+    let held = table.cells[random.index(table.cells.len())];
+    let some = random.below(u64::from(table.columns) * 4 + 2) as u32;
+    random.pick(&[u32::MAX, u32::MAX, 0, 1, 2, held, held.saturating_sub(1), some, some, u32::MAX - 1])
+}
+
+// ---- Lengths of what is lent ----
+
+/// Mostly as stated or longer, now and then shorter.
+pub fn length(random: &mut Random, stated: usize) -> usize {
+    match random.below(30) {
+        0 => stated.saturating_sub(1),
+        1 => random.index(stated + 1),
+        2 => 0,
+        3..=12 => stated + 1 + random.index(9),
+        _ => stated,
+    }
+}
+
+// ---- Sheets ----
+
+pub struct Sheets {
+    pub errors: Vec<u64>,
+    pub thicknesses: Vec<u8>,
+    pub list: Vec<u64>,
+}
+
+/// As a plan leaves them.
+pub fn sheets(plate: Plate, table: &Table, bound: u32) -> Sheets {
+    let mut sheets = Sheets {
+        errors: vec![0; plate.entries()],
+        thicknesses: vec![0; plate.entries()],
+        list: vec![0; plate.counts()],
+    };
+    let lent =
+        plain::Sheets { errors: &mut sheets.errors, thicknesses: &mut sheets.thicknesses, list: &mut sheets.list };
+    let (height, set) = (plate.height as u32, plate.set);
+    plain::plan(&table.cells, height, set, table.columns, bound, lent).expect("the table is good");
+    sheets
+}
+
+/// Changes entries of planned sheets, or fills them with anything.
+pub fn damage_sheets(random: &mut Random, plate: Plate, sheets: &mut Sheets) {
+    match random.below(4) {
+        0 => {}
+        1 => damage_entries(random, plate, sheets),
+        2 => {
+            let set: Vec<u8> = plate.thicknesses().map(|t| t as u8).chain([0, 33, 255]).collect();
+            let good = set.len() - if random.one_in(2) { 3 } else { 0 };
+            sheets.thicknesses.iter_mut().for_each(|t| *t = set[random.index(good)]);
+            sheets.errors.iter_mut().for_each(|e| *e = random.below(6));
+        }
+        _ => {
+            sheets.thicknesses.iter_mut().for_each(|t| *t = random.word() as u8);
+            sheets.errors.iter_mut().for_each(|e| *e = random.word());
+        }
+    }
+}
+
+fn damage_entries(random: &mut Random, plate: Plate, sheets: &mut Sheets) {
+    let entries = sheets.errors.len();
+    let part = 1 + entries as u64 / random.pick(&[4, 40, 400]);
+    for _ in 0..part {
+        let any = random.word() as u8;
+        let allowed = random.within(1, plate.tmax) as u8;
+        sheets.thicknesses[random.index(entries)] = random.pick(&[0, 1, 32, 33, allowed, any]);
+        let any = random.word();
+        sheets.errors[random.index(entries)] = random.pick(&[0, 1, u64::MAX, u64::MAX - 1, any]);
+    }
+}
+
+pub fn count(random: &mut Random, plate: Plate) -> u32 {
+    let greatest = plate.counts() as u32;
+    let any = random.word() as u32;
+    match random.below(20) {
+        0 => random.pick(&[0, greatest + 1, u32::MAX, any]),
+        1 => greatest,
+        2 => 1,
+        _ => 1 + random.below(u64::from(greatest)) as u32,
+    }
+}
+
+// ---- Sequences ----
+
+/// Boundaries that rise by allowed thicknesses, mostly up to the plate's top, then damaged now and then.
+pub fn sequence(random: &mut Random, plate: Plate) -> Vec<i32> {
+    let mut sequence = rising(random, plate);
+    for _ in 0..random.pick(&[0, 0, 0, 1, 1, 3]) {
+        damage_sequence(random, &mut sequence);
+    }
+    sequence
+}
+
+fn rising(random: &mut Random, plate: Plate) -> Vec<i32> {
+    let set: Vec<i64> = plate.thicknesses().collect();
+    let mut z = random.within(plate.lowest(), 0);
+    let mut sequence = vec![z as i32];
+    let end = random.pick(&[plate.height, plate.height, plate.highest(), 0]);
+    while z < end {
+        z += random.pick(&set);
+        sequence.push(z as i32);
+    }
+    sequence
+}
+
+fn damage_sequence(random: &mut Random, sequence: &mut Vec<i32>) {
+    let place = random.index(sequence.len() + 1);
+    let (any, near) = (random.word() as i32, random.within(-70, 600) as i32);
+    let value = random.pick(&[any, near, near, i32::MIN, i32::MAX, -32, 0, 1]);
+    match random.below(5) {
+        0 => sequence.insert(place, value),
+        1 if place < sequence.len() => sequence[place] = value,
+        2 if place < sequence.len() => sequence[place] = sequence[place].wrapping_add(random.pick(&[-1, 1, 32, -33])),
+        3 => sequence.truncate(place),
+        _ => sequence.push(value),
+    }
+}
+
+// ---- Job files ----
+
+pub fn record(file: &mut Vec<u8>, kind: u16, body: &[u8]) {
+    file.extend((body.len() as u16).to_le_bytes());
+    file.extend(kind.to_le_bytes());
+    file.extend(body);
+}
+
+pub fn settings_record(file: &mut Vec<u8>, height: u32, set: u32, bound: u32) {
+    let mut body = (height as u16).to_le_bytes().to_vec();
+    body.extend(set.to_le_bytes());
+    body.extend(bound.to_le_bytes());
+    record(file, 1, &body);
+}
+
+pub fn column_record(file: &mut Vec<u8>, column: &[u16]) {
+    let body: Vec<u8> = column.iter().flat_map(|b| b.to_le_bytes()).collect();
+    record(file, 2, &body);
+}
+
+pub fn end_record(file: &mut Vec<u8>, columns: u32) {
+    record(file, 3, &columns.to_le_bytes());
+}
+
+/// A job file: good, with a fault of its own making, or damaged afterwards.
+pub fn file(random: &mut Random, plate: Plate) -> Vec<u8> {
+    let (height, set) = named(random, plate);
+    let mut file = Vec::new();
+    remarks(random, &mut file);
+    settings_record(&mut file, height, set, random.word() as u32);
+    let number = random.below(12);
+    let good = random.one_in(2);
+    for _ in 0..number {
+        remarks(random, &mut file);
+        let column = if good { column(random, plate.height) } else { handed_column(random, plate) };
+        column_record(&mut file, &column);
+    }
+    remarks(random, &mut file);
+    let wrong = random.word() as u32;
+    let told = random.pick(&[number as u32; 9]);
+    end_record(&mut file, if random.one_in(15) { random.pick(&[wrong, told + 1, told + 65_536]) } else { told });
+    if random.one_in(2) {
+        damage_file(random, &mut file);
+    }
+    file
+}
+
+fn remarks(random: &mut Random, file: &mut Vec<u8>) {
+    while random.one_in(4) {
+        let body: Vec<u8> = (0..random.pick(&[0, 1, 5, 300])).map(|_| random.word() as u8).collect();
+        record(file, random.pick(&[32_768, 65_535, 40_001]), &body);
+    }
+}
+
+fn damage_file(random: &mut Random, file: &mut Vec<u8>) {
+    for _ in 0..random.pick(&[1, 1, 1, 3]) {
+        let place = random.index(file.len() + 1);
+        let byte = random.word() as u8;
+        match random.below(6) {
+            0 => file.truncate(place),
+            1 => file.insert(place, byte),
+            2 if place < file.len() => {
+                file.remove(place);
+            }
+            3 if place < file.len() => file[place] ^= 1 << random.below(8),
+            4 => file.extend((0..random.below(12)).map(|_| random.word() as u8)),
+            _ => damage_record(random, file),
+        }
+    }
+}
+
+/// Changes a record's length or kind, takes it out or sets it twice.
+fn damage_record(random: &mut Random, file: &mut Vec<u8>) {
+    let places = record_places(file);
+    if places.is_empty() {
+        return;
+    }
+    let (from, to) = random.pick(&places);
+    match random.below(4) {
+        0 => file[from] = file[from].wrapping_add(random.pick(&[1, 2, 255, 254])),
+        1 => {
+            let any = random.word() as u16;
+            let kind: u16 = random.pick(&[0, 1, 2, 3, 4, 5, 32_767, 32_768, 65_535, any]);
+            file[from + 2..from + 4].copy_from_slice(&kind.to_le_bytes());
+        }
+        2 => {
+            file.drain(from..to);
+        }
+        _ => {
+            let record = file[from..to].to_vec();
+            let (at, _) = random.pick(&places);
+            file.splice(at..at, record);
+        }
+    }
+}
+
+/// Where the records begin and end, as far as the file can be followed.
+fn record_places(file: &[u8]) -> Vec<(usize, usize)> {
+    let mut places = Vec::new();
+    let mut at = 0;
+    while at + 4 <= file.len() {
+        let end = at + 4 + usize::from(u16::from_le_bytes([file[at], file[at + 1]]));
+        if end > file.len() {
+            break;
+        }
+        places.push((at, end));
+        at = end;
+    }
+    places
+}

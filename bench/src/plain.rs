@@ -1,0 +1,594 @@
+// Document 01 once more, in plain safe Rust: every call by its definition, voxel by voxel and cell by cell.
+// Each call first gives the refusals in document 01's order; only after the last of them is anything lent written.
+// Heights, starts and thicknesses are i64 here, so that no difference of two inputs can overflow.
+
+pub const NONE: u64 = u64::MAX;
+pub const MOST_HEIGHT: u32 = 512;
+pub const MOST_THICKNESS: i64 = 32;
+pub const MOST_COLUMNS: u32 = 1_000_000;
+pub const MOST_BOUNDARIES: usize = 64;
+pub const MOST_STEP: u32 = 8_192;
+
+#[derive(Clone, Copy, Debug, PartialEq, Eq)]
+pub struct Refusal {
+    pub number: u32,
+    pub place: u64,
+}
+
+pub type Answer<T> = Result<T, Refusal>;
+
+fn refuse<T>(number: u32, place: u64) -> Answer<T> {
+    Err(Refusal { number, place })
+}
+
+/// Refusal `number` at the place, where there is one.
+fn refuse_at(number: u32, place: Option<usize>) -> Answer<()> {
+    match place {
+        Some(p) => refuse(number, p as u64),
+        None => Ok(()),
+    }
+}
+
+// ---- Plate ----
+
+/// Settings that 1 and 2 let through.
+#[derive(Clone, Copy, Debug, PartialEq, Eq)]
+pub struct Plate {
+    pub height: i64,
+    pub set: u32,
+    pub tmin: i64,
+    pub tmax: i64,
+}
+
+/// Whether bit k−1 is set for the thickness k.
+pub fn in_set(set: u32, thickness: i64) -> bool {
+    (1..=MOST_THICKNESS).contains(&thickness) && (set >> (thickness - 1)) & 1 == 1
+}
+
+impl Plate {
+    pub fn new(height: u32, set: u32) -> Answer<Plate> {
+        if !(1..=MOST_HEIGHT).contains(&height) {
+            return refuse(1, 0);
+        }
+        let mut members = (1..=MOST_THICKNESS).filter(|&t| in_set(set, t));
+        let tmin = match members.next() {
+            Some(first) => first,
+            None => return refuse(2, 0),
+        };
+        let tmax = members.last().unwrap_or(tmin);
+        let height = i64::from(height);
+        Ok(Plate { height, set, tmin, tmax })
+    }
+
+    pub fn allows(self, thickness: i64) -> bool {
+        in_set(self.set, thickness)
+    }
+
+    pub fn thicknesses(self) -> impl Iterator<Item = i64> {
+        (self.tmin..=self.tmax).filter(move |&t| self.allows(t))
+    }
+
+    pub fn lowest(self) -> i64 {
+        -(self.tmax - 1)
+    }
+
+    pub fn last_start(self) -> i64 {
+        self.height + self.tmax - 2
+    }
+
+    pub fn highest(self) -> i64 {
+        self.height + self.tmax - 1
+    }
+
+    pub fn cells(self) -> usize {
+        ((self.height + 2 * self.tmax - 2) * self.tmax) as usize
+    }
+
+    /// M, the greatest count asked for.
+    pub fn counts(self) -> usize {
+        ((self.height + 2 * self.tmax - 2) / self.tmin) as usize
+    }
+
+    /// The entries of a sheet.
+    pub fn entries(self) -> usize {
+        (self.height + 2 * self.tmax - 1) as usize * (self.counts() + 1)
+    }
+
+    pub fn cell(self, start: i64, thickness: i64) -> usize {
+        ((start - self.lowest()) * self.tmax + thickness - 1) as usize
+    }
+
+    /// The start and the thickness of a cell.
+    pub fn layer(self, cell: usize) -> (i64, i64) {
+        let cell = cell as i64;
+        (self.lowest() + cell / self.tmax, cell % self.tmax + 1)
+    }
+
+    pub fn entry(self, height: i64, count: usize) -> usize {
+        (height - self.lowest()) as usize * (self.counts() + 1) + count
+    }
+
+    /// What a cell may hold at most in a table of so many columns.
+    pub fn limit(self, cell: usize, columns: u32) -> u32 {
+        let (_, thickness) = self.layer(cell);
+        if self.allows(thickness) {
+            columns * (thickness / 2) as u32
+        } else {
+            0
+        }
+    }
+}
+
+pub fn cells(height: u32, set: u32) -> Answer<u64> {
+    Plate::new(height, set).map(|plate| plate.cells() as u64)
+}
+
+pub fn entries(height: u32, set: u32) -> Answer<u64> {
+    Plate::new(height, set).map(|plate| plate.entries() as u64)
+}
+
+pub fn counts(height: u32, set: u32) -> Answer<u64> {
+    Plate::new(height, set).map(|plate| plate.counts() as u64)
+}
+
+// ---- Refusals shared by several calls ----
+
+/// 3: pairs of a lent length and the stated one, in the call's order.
+fn check_lent(lent: &[(usize, usize)]) -> Answer<()> {
+    let short = lent.iter().position(|&(length, stated)| length < stated);
+    refuse_at(3, short.map(|i| i + 1))
+}
+
+/// 7, for a table's count.
+fn check_columns(columns: u32) -> Answer<()> {
+    if columns > MOST_COLUMNS {
+        return refuse(7, 0);
+    }
+    Ok(())
+}
+
+/// 7, where one more column is to be added.
+fn check_room(columns: u32) -> Answer<()> {
+    if columns >= MOST_COLUMNS {
+        return refuse(7, 0);
+    }
+    Ok(())
+}
+
+/// 4 and 5.
+fn check_column(plate: Plate, column: &[u16]) -> Answer<()> {
+    if column.len() % 2 == 1 || column.len() > MOST_BOUNDARIES {
+        return refuse(4, column.len() as u64);
+    }
+    let bad = |&i: &usize| {
+        let not_above = i > 0 && column[i] <= column[i - 1];
+        not_above || i64::from(column[i]) > plate.height
+    };
+    refuse_at(5, (0..column.len()).find(bad))
+}
+
+/// 6, for every cell of a table.
+fn check_cells(plate: Plate, table: &[u32], columns: u32) -> Answer<()> {
+    let bad = |&i: &usize| table[i] > plate.limit(i, columns);
+    refuse_at(6, (0..plate.cells()).find(bad))
+}
+
+// ---- Columns and layers ----
+
+/// Whether each voxel from −(tmax−1) to N+2·tmax−3 is inside: all that a layer of the table can hold.
+struct Voxels {
+    lowest: i64,
+    inside: Vec<bool>,
+}
+
+impl Voxels {
+    fn of(plate: Plate, column: &[u16]) -> Voxels {
+        let lowest = plate.lowest();
+        let heights = lowest..plate.last_start() + plate.tmax;
+        let inside = heights.map(|z| passed(column, z) % 2 == 1).collect();
+        Voxels { lowest, inside }
+    }
+
+    fn inside_of(&self, start: i64, thickness: i64) -> i64 {
+        let from = (start - self.lowest) as usize;
+        let voxels = &self.inside[from..from + thickness as usize];
+        voxels.iter().filter(|&&inside| inside).count() as i64
+    }
+
+    fn share(&self, start: i64, thickness: i64) -> u32 {
+        let inside = self.inside_of(start, thickness);
+        inside.min(thickness - inside) as u32
+    }
+
+    fn fills(&self, start: i64, thickness: i64) -> bool {
+        let inside = self.inside_of(start, thickness);
+        inside > thickness - inside
+    }
+}
+
+/// How many boundaries are at or below the voxel.
+fn passed(column: &[u16], z: i64) -> usize {
+    column.iter().filter(|&&b| i64::from(b) <= z).count()
+}
+
+#[derive(Clone, Copy, Debug, PartialEq, Eq)]
+pub struct Picture {
+    pub filled: bool,
+    pub share: u32,
+}
+
+pub fn picture(height: u32, set: u32, column: &[u16], start: i32, thickness: u32) -> Answer<Picture> {
+    let plate = Plate::new(height, set)?;
+    check_column(plate, column)?;
+    let (start, thickness) = (i64::from(start), i64::from(thickness));
+    if start < plate.lowest() || start > plate.last_start() {
+        return refuse(13, 0);
+    }
+    if !plate.allows(thickness) {
+        return refuse(13, 1);
+    }
+    let voxels = Voxels::of(plate, column);
+    let (filled, share) = (voxels.fills(start, thickness), voxels.share(start, thickness));
+    Ok(Picture { filled, share })
+}
+
+// ---- Table ----
+
+pub fn clear_table(table: &mut [u32], height: u32, set: u32) -> Answer<u32> {
+    let plate = Plate::new(height, set)?;
+    check_lent(&[(table.len(), plate.cells())])?;
+    table[..plate.cells()].fill(0);
+    Ok(0)
+}
+
+pub fn add_column(table: &mut [u32], height: u32, set: u32, columns: u32, column: &[u16]) -> Answer<u32> {
+    let plate = Plate::new(height, set)?;
+    check_lent(&[(table.len(), plate.cells())])?;
+    check_room(columns)?;
+    check_column(plate, column)?;
+    let shares = shares(plate, column);
+    let bad = |&i: &usize| shares[i] > 0 && table[i] > plate.limit(i, columns);
+    refuse_at(6, (0..plate.cells()).find(bad))?;
+    for (cell, share) in table.iter_mut().zip(&shares) {
+        *cell += share;
+    }
+    Ok(columns + 1)
+}
+
+/// What a column adds to each cell of the table.
+fn shares(plate: Plate, column: &[u16]) -> Vec<u32> {
+    let voxels = Voxels::of(plate, column);
+    let share = |cell| {
+        let (start, thickness) = plate.layer(cell);
+        if plate.allows(thickness) {
+            voxels.share(start, thickness)
+        } else {
+            0
+        }
+    };
+    (0..plate.cells()).map(share).collect()
+}
+
+/// A table with what was said to go with it; `cells` is what was lent.
+#[derive(Clone, Copy, Debug)]
+pub struct Second<'a> {
+    pub cells: &'a [u32],
+    pub height: u32,
+    pub set: u32,
+    pub columns: u32,
+}
+
+/// 1 and 2 for both, 8, 3 and 7 for either count.
+fn check_two(table: &[u32], height: u32, set: u32, columns: u32, second: Second) -> Answer<Plate> {
+    let plate = Plate::new(height, set)?;
+    let other = Plate::new(second.height, second.set)?;
+    if plate != other {
+        return refuse(8, 0);
+    }
+    check_lent(&[(table.len(), plate.cells()), (second.cells.len(), plate.cells())])?;
+    check_columns(columns)?;
+    check_columns(second.columns)?;
+    Ok(plate)
+}
+
+pub fn join_tables(table: &mut [u32], height: u32, set: u32, columns: u32, second: Second) -> Answer<u32> {
+    let plate = check_two(table, height, set, columns, second)?;
+    let sum = columns + second.columns;
+    check_columns(sum)?;
+    check_cells(plate, table, columns)?;
+    check_cells(plate, second.cells, second.columns)?;
+    for i in 0..plate.cells() {
+        table[i] += second.cells[i];
+    }
+    Ok(sum)
+}
+
+pub fn take_off(table: &mut [u32], height: u32, set: u32, columns: u32, second: Second) -> Answer<u32> {
+    let plate = check_two(table, height, set, columns, second)?;
+    check_cells(plate, table, columns)?;
+    check_cells(plate, second.cells, second.columns)?;
+    if second.columns > columns {
+        return refuse(9, 0);
+    }
+    let rest = columns - second.columns;
+    let bad = |&i: &usize| {
+        let difference = i64::from(table[i]) - i64::from(second.cells[i]);
+        difference < 0 || difference > i64::from(plate.limit(i, rest))
+    };
+    refuse_at(9, (0..plate.cells()).find(bad))?;
+    for i in 0..plate.cells() {
+        table[i] -= second.cells[i];
+    }
+    Ok(rest)
+}
+
+// ---- Plan ----
+
+/// What a plan fills.
+pub struct Sheets<'a> {
+    pub errors: &'a mut [u64],
+    pub thicknesses: &'a mut [u8],
+    pub list: &'a mut [u64],
+}
+
+pub fn plan(table: &[u32], height: u32, set: u32, columns: u32, bound: u32, sheets: Sheets) -> Answer<u64> {
+    let plate = Plate::new(height, set)?;
+    check_lent(&[
+        (table.len(), plate.cells()),
+        (sheets.errors.len(), plate.entries()),
+        (sheets.thicknesses.len(), plate.entries()),
+        (sheets.list.len(), plate.counts()),
+    ])?;
+    check_columns(columns)?;
+    check_cells(plate, table, columns)?;
+    for height in plate.lowest()..=plate.highest() {
+        for count in 0..=plate.counts() {
+            let (error, thickness) = least(plate, table, bound, sheets.errors, height, count);
+            sheets.errors[plate.entry(height, count)] = error;
+            sheets.thicknesses[plate.entry(height, count)] = thickness as u8;
+        }
+    }
+    for count in 1..=plate.counts() {
+        sheets.list[count - 1] = lowest_end(plate, sheets.errors, count).1;
+    }
+    Ok(plate.counts() as u64)
+}
+
+/// The least error of so many layers ending at the height, and the last thickness of the chosen sequence; lower heights are in the sheet.
+fn least(plate: Plate, table: &[u32], bound: u32, errors: &[u64], height: i64, count: usize) -> (u64, i64) {
+    if count == 0 {
+        return (if height <= 0 { 0 } else { NONE }, 0);
+    }
+    let mut best = (NONE, 0);
+    for thickness in plate.thicknesses() {
+        let start = height - thickness;
+        if start < plate.lowest() {
+            break;
+        }
+        let before = errors[plate.entry(start, count - 1)];
+        let error = table[plate.cell(start, thickness)];
+        if before != NONE && error <= bound && before + u64::from(error) < best.0 {
+            best = (before + u64::from(error), thickness);
+        }
+    }
+    best
+}
+
+/// The lowest height from N up with the least entry of the count, and that entry.
+fn lowest_end(plate: Plate, errors: &[u64], count: usize) -> (i64, u64) {
+    let ends = plate.height..=plate.highest();
+    let entries = ends.map(|h| (h, errors[plate.entry(h, count)]));
+    entries.min_by_key(|&(h, error)| (error, h)).expect("there is an end")
+}
+
+// ---- Read back, recount ----
+
+/// The sheets as a plan left them, or with anything in them.
+#[derive(Clone, Copy, Debug)]
+pub struct Filled<'a> {
+    pub errors: &'a [u64],
+    pub thicknesses: &'a [u8],
+}
+
+pub fn read_back(height: u32, set: u32, sheets: Filled, count: u32, out: &mut [i32]) -> Answer<u64> {
+    let plate = Plate::new(height, set)?;
+    let entries = plate.entries();
+    check_lent(&[(sheets.errors.len(), entries), (sheets.thicknesses.len(), entries)])?;
+    let count = count as usize;
+    if count == 0 || count > plate.counts() {
+        return refuse(10, 0);
+    }
+    check_lent(&[(0, 0), (0, 0), (out.len(), count + 1)])?;
+    let (end, error) = lowest_end(plate, sheets.errors, count);
+    if error == NONE {
+        return refuse(11, 0);
+    }
+    let boundaries = walk_down(plate, sheets.thicknesses, end, count)?;
+    out[..=count].copy_from_slice(&boundaries);
+    Ok(error)
+}
+
+/// The boundaries from z0 up, or 12.
+fn walk_down(plate: Plate, thicknesses: &[u8], end: i64, count: usize) -> Answer<Vec<i32>> {
+    let mut boundaries = vec![end as i32];
+    let mut height = end;
+    for layer in (1..=count).rev() {
+        let thickness = i64::from(thicknesses[plate.entry(height, layer)]);
+        if !plate.allows(thickness) || height - thickness < plate.lowest() {
+            return refuse(12, layer as u64);
+        }
+        height -= thickness;
+        boundaries.push(height as i32);
+    }
+    if height > 0 {
+        return refuse(12, 0);
+    }
+    boundaries.reverse();
+    Ok(boundaries)
+}
+
+pub fn recount(table: &[u32], height: u32, set: u32, columns: u32, bound: u32, sequence: &[i32]) -> Answer<u64> {
+    let plate = Plate::new(height, set)?;
+    check_lent(&[(table.len(), plate.cells())])?;
+    check_columns(columns)?;
+    check_cells(plate, table, columns)?;
+    let heights: Vec<i64> = sequence.iter().map(|&z| i64::from(z)).collect();
+    if heights.len() < 2 || heights[0] < plate.lowest() || heights[0] > 0 {
+        return refuse(13, 0);
+    }
+    let mut error = 0;
+    for i in 1..heights.len() {
+        let thickness = heights[i] - heights[i - 1];
+        if !plate.allows(thickness) || heights[i] > plate.highest() {
+            return refuse(13, i as u64);
+        }
+        let layer = table[plate.cell(heights[i - 1], thickness)];
+        if layer > bound {
+            return refuse(13, i as u64);
+        }
+        error += u64::from(layer);
+    }
+    let last = heights.len() - 1;
+    if heights[last] < plate.height {
+        return refuse(13, last as u64);
+    }
+    Ok(error)
+}
+
+// ---- Motor height ----
+
+pub fn motor_height(step: u32, boundary: i32) -> Answer<f32> {
+    if !(1..=MOST_STEP).contains(&step) {
+        return refuse(14, 0);
+    }
+    if !(-31..=543).contains(&boundary) {
+        return refuse(15, 0);
+    }
+    Ok(eighth(boundary * step as i32))
+}
+
+/// The f32 whose eightfold is the number, put together from sign, exponent and digits; positive zero for 0.
+fn eighth(number: i32) -> f32 {
+    let size = number.unsigned_abs();
+    if size == 0 {
+        return f32::from_bits(0);
+    }
+    assert!(size < 1 << 24, "the number has at most 24 binary digits");
+    let power = 31 - size.leading_zeros();
+    let digits = (size << (23 - power)) & 0x7F_FFFF;
+    let exponent = 127 + power - 3;
+    let sign = u32::from(number < 0);
+    f32::from_bits(sign << 31 | exponent << 23 | digits)
+}
+
+// ---- Job file ----
+
+#[derive(Clone, Copy, Debug, PartialEq, Eq)]
+pub struct Loaded {
+    pub height: u32,
+    pub set: u32,
+    pub bound: u32,
+    pub columns: u32,
+}
+
+/// A whole job file's settings and columns.
+struct Job {
+    settings: Loaded,
+    columns: Vec<Vec<u16>>,
+}
+
+/// One record: its kind and its body.
+struct Record<'a> {
+    kind: u16,
+    body: &'a [u8],
+}
+
+pub fn read_job(input: &[u8], most: usize, table: &mut [u32]) -> Answer<Loaded> {
+    let job = read_records(input, most)?;
+    let Loaded { height, set, .. } = job.settings;
+    let plate = Plate::new(height, set)?;
+    check_lent(&[(table.len(), plate.cells())])?;
+    let mut columns = clear_table(table, height, set)?;
+    for column in &job.columns {
+        columns = add_column(table, height, set, columns, column)?;
+    }
+    Ok(Loaded { columns, ..job.settings })
+}
+
+fn read_records(input: &[u8], most: usize) -> Answer<Job> {
+    let mut job: Option<Job> = None;
+    let mut at = 0;
+    loop {
+        let record = match record_at(input, at, job.is_some()) {
+            Some(record) => record,
+            None => return refuse(16, at as u64),
+        };
+        let next = at + 4 + record.body.len();
+        let at_record = |refusal: Refusal| Refusal { place: at as u64, ..refusal };
+        match (record.kind, &mut job) {
+            (1, none) => *none = Some(settings(record.body, most).map_err(at_record)?),
+            (2, Some(job)) => job.columns.push(next_column(job, record.body).map_err(at_record)?),
+            (3, Some(job)) if number(record.body) != job.columns.len() as u64 => return refuse(16, at as u64),
+            (3, _) => {
+                check_nothing_left(input, next)?;
+                return Ok(job.expect("settings come first"));
+            }
+            _ => {}
+        }
+        at = next;
+    }
+}
+
+/// The record at the place, or none where it is malformed (16) by its head, kind or length.
+fn record_at(input: &[u8], at: usize, settled: bool) -> Option<Record<'_>> {
+    let left = &input[at..];
+    if left.len() < 4 {
+        return None;
+    }
+    let length = number(&left[..2]) as usize;
+    let kind = number(&left[2..4]) as u16;
+    let (allowed_here, right_length) = match kind {
+        1 => (!settled, length == 10),
+        2 => (settled, length % 2 == 0),
+        3 => (settled, length == 4),
+        32768.. => (true, true),
+        _ => (false, false),
+    };
+    if !allowed_here || !right_length || left.len() - 4 < length {
+        return None;
+    }
+    let body = &left[4..4 + length];
+    Some(Record { kind, body })
+}
+
+/// Little-endian.
+fn number(bytes: &[u8]) -> u64 {
+    bytes.iter().rev().fold(0, |sum, &byte| sum * 256 + u64::from(byte))
+}
+
+/// 1, 2, then 17 where a table or a sheet has more than `most` entries.
+fn settings(body: &[u8], most: usize) -> Answer<Job> {
+    let (height, set, bound) = (number(&body[..2]) as u32, number(&body[2..6]) as u32, number(&body[6..]) as u32);
+    let plate = Plate::new(height, set)?;
+    if plate.cells() > most || plate.entries() > most {
+        return refuse(17, 0);
+    }
+    let settings = Loaded { height, set, bound, columns: 0 };
+    Ok(Job { settings, columns: Vec::new() })
+}
+
+/// 7, 4, 5, or the column.
+fn next_column(job: &Job, body: &[u8]) -> Answer<Vec<u16>> {
+    let plate = Plate::new(job.settings.height, job.settings.set)?;
+    let column: Vec<u16> = body.chunks(2).map(|two| number(two) as u16).collect();
+    check_room(job.columns.len() as u32)?;
+    check_column(plate, &column)?;
+    Ok(column)
+}
+
+fn check_nothing_left(input: &[u8], at: usize) -> Answer<()> {
+    if at < input.len() {
+        return refuse(16, at as u64);
+    }
+    Ok(())
+}

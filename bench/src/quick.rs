@@ -1,0 +1,431 @@
+// Document 01's calls in safe Rust written for speed, to be timed beside the library: planners with the count innermost, adding after the
+// source paper's Algorithm 1, scans row by row. All refusals are given, so the work is the same; tests/quick.rs holds them to plain.rs.
+
+use crate::plain::{Answer, Filled, Plate, Refusal, Second, Sheets};
+use crate::plain::{MOST_BOUNDARIES, MOST_COLUMNS, NONE};
+
+fn refuse<T>(number: u32, place: usize) -> Answer<T> {
+    Err(Refusal { number, place: place as u64 })
+}
+
+/// The most that a cell of each thickness may hold.
+fn limits(plate: Plate, columns: u32) -> [u32; 32] {
+    let mut limits = [0; 32];
+    for thickness in plate.thicknesses() {
+        limits[thickness as usize - 1] = columns * (thickness as u32 / 2);
+    }
+    limits
+}
+
+/// 6: whole rows are judged first, and only in a bad one is the cell looked for.
+fn check_cells(plate: Plate, table: &[u32], columns: u32) -> Answer<()> {
+    let width = plate.tmax as usize;
+    let limits = &limits(plate, columns)[..width];
+    for (r, row) in table[..plate.cells()].chunks_exact(width).enumerate() {
+        let over = |bad: bool, (cell, limit): (&u32, &u32)| bad | (cell > limit);
+        if row.iter().zip(limits).fold(false, over) {
+            let first = row.iter().zip(limits).position(|(cell, limit)| cell > limit);
+            return refuse(6, r * width + first.unwrap_or(0));
+        }
+    }
+    Ok(())
+}
+
+// ---- Plan ----
+
+/// Which counts of a start row are looked at.
+#[derive(Clone, Copy, Debug, PartialEq, Eq)]
+pub enum Reach {
+    /// Every count from 0 to M−1.
+    Every,
+    /// From 0 to the greatest that the row's rise allows.
+    UpToGreatest,
+    /// From the least that brings a start at or below 0 up to the row, to the greatest.
+    PossibleOnly,
+}
+
+pub fn plan(
+    reach: Reach,
+    table: &[u32],
+    height: u32,
+    set: u32,
+    columns: u32,
+    bound: u32,
+    sheets: Sheets,
+) -> Answer<u64> {
+    let plate = Plate::new(height, set)?;
+    let (entries, counts) = (plate.entries(), plate.counts());
+    let stated = [
+        table.len() >= plate.cells(),
+        sheets.errors.len() >= entries,
+        sheets.thicknesses.len() >= entries,
+        sheets.list.len() >= counts,
+    ];
+    if let Some(short) = stated.iter().position(|&enough| !enough) {
+        return refuse(3, short + 1);
+    }
+    if columns > MOST_COLUMNS {
+        return refuse(7, 0);
+    }
+    check_cells(plate, table, columns)?;
+    match reach {
+        Reach::Every => fill(plate, table, bound, sheets, |_| (0, counts)),
+        Reach::UpToGreatest => fill(plate, table, bound, sheets, |row| (0, greatest(plate, row))),
+        Reach::PossibleOnly => fill(plate, table, bound, sheets, |row| (fewest(plate, row), greatest(plate, row))),
+    }
+    Ok(counts as u64)
+}
+
+/// One past the greatest count that the start row can have and a layer can be put on.
+fn greatest(plate: Plate, row: usize) -> usize {
+    plate.counts().min(row / plate.tmin as usize + 1)
+}
+
+/// The least count that the start row can have; row tmax−1 is height 0.
+fn fewest(plate: Plate, row: usize) -> usize {
+    let tmax = plate.tmax as usize;
+    row.saturating_sub(tmax - 1).div_ceil(tmax)
+}
+
+/// Fills both sheets and the list; `range` names the counts of a start row that are looked at.
+fn fill(plate: Plate, table: &[u32], bound: u32, sheets: Sheets, range: impl Fn(usize) -> (usize, usize)) {
+    let (tmax, width) = (plate.tmax as usize, plate.counts() + 1);
+    let thicknesses: Vec<usize> = plate.thicknesses().map(|t| t as usize).collect();
+    let rows = (plate.highest() - plate.lowest() + 1) as usize;
+    for row in 0..rows {
+        let (lower, here) = sheets.errors.split_at_mut(row * width);
+        let here = &mut here[..width];
+        let last = &mut sheets.thicknesses[row * width..(row + 1) * width];
+        here.fill(NONE);
+        last.fill(0);
+        if row < tmax {
+            here[0] = 0;
+        }
+        for &thickness in thicknesses.iter().take_while(|&&t| t <= row) {
+            let start = row - thickness;
+            let error = table[start * tmax + thickness - 1];
+            let (from, to) = range(start);
+            if error <= bound && from < to {
+                let below = &lower[start * width + from..start * width + to];
+                put_on(below, error, thickness as u8, &mut here[from + 1..=to], &mut last[from + 1..=to]);
+            }
+        }
+    }
+    fill_list(plate, sheets.errors, &mut sheets.list[..width - 1]);
+}
+
+/// A layer put on every sequence of the start row: the hot loop, by fours, and not inlined, which leaves it more registers.
+#[inline(never)]
+fn put_on(below: &[u64], error: u32, thickness: u8, here: &mut [u64], last: &mut [u8]) {
+    let mut below = below.chunks_exact(4);
+    let mut here = here.chunks_exact_mut(4);
+    let mut last = last.chunks_exact_mut(4);
+    for ((below, here), last) in (&mut below).zip(&mut here).zip(&mut last) {
+        put_on_each(below, error, thickness, here, last);
+    }
+    put_on_each(below.remainder(), error, thickness, here.into_remainder(), last.into_remainder());
+}
+
+#[inline(always)]
+fn put_on_each(below: &[u64], error: u32, thickness: u8, here: &mut [u64], last: &mut [u8]) {
+    for ((&before, least), held) in below.iter().zip(here).zip(last) {
+        let sum = before.saturating_add(u64::from(error));
+        if sum < *least {
+            *least = sum;
+            *held = thickness;
+        }
+    }
+}
+
+fn fill_list(plate: Plate, errors: &[u64], list: &mut [u64]) {
+    let (tmax, width) = (plate.tmax as usize, plate.counts() + 1);
+    list.fill(NONE);
+    let first = plate.height as usize + tmax - 1;
+    for row in first..first + tmax {
+        let ends = &errors[row * width + 1..(row + 1) * width];
+        for (least, &end) in list.iter_mut().zip(ends) {
+            *least = end.min(*least);
+        }
+    }
+}
+
+// ---- Adding ----
+
+/// Refusals 1, 2, 3, 7, 4 and 5 of adding.
+fn check_adding(table: &[u32], height: u32, set: u32, columns: u32, column: &[u16]) -> Answer<Plate> {
+    let plate = Plate::new(height, set)?;
+    if table.len() < plate.cells() {
+        return refuse(3, 1);
+    }
+    if columns >= MOST_COLUMNS {
+        return refuse(7, 0);
+    }
+    if column.len() % 2 == 1 || column.len() > MOST_BOUNDARIES {
+        return refuse(4, column.len());
+    }
+    let mut least = 0;
+    for (i, &boundary) in column.iter().enumerate() {
+        if u32::from(boundary) < least || u32::from(boundary) > height {
+            return refuse(5, i);
+        }
+        least = u32::from(boundary) + 1;
+    }
+    Ok(plate)
+}
+
+/// Each cell with a share above 0, in rising order, with its limit and share; `visit` ends the walk with false. By Algorithm 1: a layer
+/// is met at the first boundary in it, and S is summed over the boundaries after that (the list's end kept in mind, half of line 10).
+fn by_algorithm_1(plate: Plate, column: &[u16], limits: &[u32; 32], mut visit: impl FnMut(usize, u32, u32) -> bool) {
+    let tmax = plate.tmax;
+    let at = |k: usize| i64::from(column[k]);
+    for k in 0..column.len() {
+        let nearest = at(k) - tmax + 1;
+        let first = if k == 0 { nearest } else { nearest.max(at(k - 1)) };
+        for start in first..at(k) {
+            let row = ((start + tmax - 1) * tmax) as usize;
+            for end in at(k) + 1..=start + tmax {
+                let thickness = end - start;
+                if (plate.set >> (thickness - 1)) & 1 == 0 {
+                    continue;
+                }
+                let cell = row + thickness as usize - 1;
+                let share = (thickness - signed_sum(column, k, start, end).abs()) / 2;
+                if !visit(cell, limits[thickness as usize - 1], share as u32) {
+                    return;
+                }
+            }
+        }
+    }
+}
+
+/// Algorithm 1's S: inside less outside, up to its sign.
+fn signed_sum(column: &[u16], k: usize, start: i64, end: i64) -> i64 {
+    let sign = |l: usize| if l.is_multiple_of(2) { 1 } else { -1 };
+    let mut sum = sign(k) * (start - i64::from(column[k]));
+    let mut l = k + 1;
+    while l < column.len() && i64::from(column[l]) < end {
+        sum += sign(l) * (i64::from(column[l - 1]) - i64::from(column[l]));
+        l += 1;
+    }
+    sum + sign(l) * (i64::from(column[l - 1]) - end)
+}
+
+/// Algorithm 1 twice: once for refusal 6, once to add.
+pub fn add_by_algorithm_1(table: &mut [u32], height: u32, set: u32, columns: u32, column: &[u16]) -> Answer<u32> {
+    let plate = check_adding(table, height, set, columns, column)?;
+    let limits = limits(plate, columns);
+    let mut bad = None;
+    by_algorithm_1(plate, column, &limits, |cell, limit, _| {
+        if table[cell] > limit {
+            bad = Some(cell);
+        }
+        bad.is_none()
+    });
+    if let Some(cell) = bad {
+        return refuse(6, cell);
+    }
+    by_algorithm_1(plate, column, &limits, |cell, _, share| {
+        table[cell] += share;
+        true
+    });
+    Ok(columns + 1)
+}
+
+/// The same layers start by start, with the inside count carried from one thickness to the next; one pass, taken back where refusal 6 is met.
+pub fn add_carrying(table: &mut [u32], height: u32, set: u32, columns: u32, column: &[u16]) -> Answer<u32> {
+    let plate = check_adding(table, height, set, columns, column)?;
+    let limits = limits(plate, columns);
+    let bad = carry(plate, column, |row, shares| add_row(&mut table[row..], &limits, shares));
+    if let Some(cell) = bad {
+        carry(plate, column, |row, shares| take_row(&mut table[row..], row, cell, shares));
+        return refuse(6, cell);
+    }
+    Ok(columns + 1)
+}
+
+/// The shares of the thicknesses of one start that hold a boundary: from `first` on, 0 where not allowed.
+struct Shares {
+    first: usize,
+    shares: [u32; 32],
+    tmax: usize,
+}
+
+/// Every start row that a boundary touches, in rising order; ends at the first cell that `visit` gives.
+fn carry(plate: Plate, column: &[u16], mut visit: impl FnMut(usize, &Shares) -> Option<usize>) -> Option<usize> {
+    let tmax = plate.tmax as usize;
+    let mut least = 0;
+    for (k, &boundary) in column.iter().enumerate() {
+        let boundary = usize::from(boundary) + tmax - 1;
+        for start in least.max(boundary + 1 - tmax)..boundary {
+            let shares = shares_from(plate, column, k, start, boundary);
+            if let Some(offset) = visit(start * tmax, &shares) {
+                return Some(start * tmax + offset);
+            }
+        }
+        least = boundary;
+    }
+    None
+}
+
+/// Starts and boundaries here are counted from −(tmax−1).
+fn shares_from(plate: Plate, column: &[u16], k: usize, start: usize, boundary: usize) -> Shares {
+    let tmax = plate.tmax as usize;
+    let first = boundary - start;
+    let mut shares = [0; 32];
+    let mut step = (k as u32 + 1) % 2;
+    let mut inside = if step == 1 { 0 } else { first as u32 };
+    let mut next = k + 1;
+    for (t, share) in shares.iter_mut().enumerate().take(tmax).skip(first) {
+        if next < column.len() && usize::from(column[next]) + tmax - 1 == start + t {
+            step = 1 - step;
+            next += 1;
+        }
+        inside += step;
+        let allowed = (plate.set >> t) & 1;
+        *share = inside.min(t as u32 + 1 - inside) * allowed;
+    }
+    Shares { first, shares, tmax }
+}
+
+/// Adds a row's shares, or gives the first cell out of bounds, nothing from it on being added.
+fn add_row(row: &mut [u32], limits: &[u32; 32], shares: &Shares) -> Option<usize> {
+    let range = shares.first..shares.tmax;
+    let (row, limits, shares) = (&mut row[range.clone()], &limits[range.clone()], &shares.shares[range.clone()]);
+    let over = |cell: u32, limit: u32, share: u32| (share > 0) & (cell > limit);
+    let cells = row.iter().zip(limits).zip(shares);
+    if cells.clone().fold(false, |bad, ((&c, &l), &s)| bad | over(c, l, s)) {
+        return cells.clone().position(|((&c, &l), &s)| over(c, l, s)).map(|i| i + range.start);
+    }
+    for (cell, share) in row.iter_mut().zip(shares) {
+        *cell += share;
+    }
+    None
+}
+
+/// Takes a row's shares back, up to the row of the cell that was out of bounds.
+fn take_row(row: &mut [u32], at: usize, cell: usize, shares: &Shares) -> Option<usize> {
+    if at + shares.tmax > cell {
+        return Some(0);
+    }
+    for (cell, share) in row[shares.first..shares.tmax].iter_mut().zip(&shares.shares[shares.first..]) {
+        *cell -= share;
+    }
+    None
+}
+
+// ---- Joining and taking off ----
+
+fn check_two(table: &[u32], height: u32, set: u32, columns: u32, second: Second) -> Answer<Plate> {
+    let plate = Plate::new(height, set)?;
+    if Plate::new(second.height, second.set)? != plate {
+        return refuse(8, 0);
+    }
+    if table.len() < plate.cells() {
+        return refuse(3, 1);
+    }
+    if second.cells.len() < plate.cells() {
+        return refuse(3, 2);
+    }
+    if columns > MOST_COLUMNS || second.columns > MOST_COLUMNS {
+        return refuse(7, 0);
+    }
+    Ok(plate)
+}
+
+pub fn join_tables(table: &mut [u32], height: u32, set: u32, columns: u32, second: Second) -> Answer<u32> {
+    let plate = check_two(table, height, set, columns, second)?;
+    if columns + second.columns > MOST_COLUMNS {
+        return refuse(7, 0);
+    }
+    check_cells(plate, table, columns)?;
+    check_cells(plate, second.cells, second.columns)?;
+    for (cell, other) in table[..plate.cells()].iter_mut().zip(second.cells) {
+        *cell += other;
+    }
+    Ok(columns + second.columns)
+}
+
+pub fn take_off(table: &mut [u32], height: u32, set: u32, columns: u32, second: Second) -> Answer<u32> {
+    let plate = check_two(table, height, set, columns, second)?;
+    check_cells(plate, table, columns)?;
+    check_cells(plate, second.cells, second.columns)?;
+    if second.columns > columns {
+        return refuse(9, 0);
+    }
+    let (table, rest) = (&mut table[..plate.cells()], columns - second.columns);
+    check_part(plate, table, second.cells, rest)?;
+    for (cell, other) in table.iter_mut().zip(second.cells) {
+        *cell -= other;
+    }
+    Ok(rest)
+}
+
+/// 9, cell by cell; both cells are below 2^31, so a negative difference wraps beyond every limit.
+fn check_part(plate: Plate, table: &[u32], other: &[u32], rest: u32) -> Answer<()> {
+    let width = plate.tmax as usize;
+    let limits = &limits(plate, rest)[..width];
+    let over = |cell: u32, other: u32, limit: u32| cell.wrapping_sub(other) > limit;
+    for (r, (row, others)) in table.chunks_exact(width).zip(other.chunks_exact(width)).enumerate() {
+        let cells = row.iter().zip(others).zip(limits);
+        if cells.clone().fold(false, |bad, ((&c, &o), &l)| bad | over(c, o, l)) {
+            let first = cells.clone().position(|((&c, &o), &l)| over(c, o, l));
+            return refuse(9, r * width + first.unwrap_or(0));
+        }
+    }
+    Ok(())
+}
+
+// ---- Reading back ----
+
+pub fn read_back(height: u32, set: u32, sheets: Filled, count: u32, out: &mut [i32]) -> Answer<u64> {
+    let plate = Plate::new(height, set)?;
+    let (entries, counts, tmax) = (plate.entries(), plate.counts(), plate.tmax as usize);
+    if sheets.errors.len() < entries {
+        return refuse(3, 1);
+    }
+    if sheets.thicknesses.len() < entries {
+        return refuse(3, 2);
+    }
+    let count = count as usize;
+    if count == 0 || count > counts {
+        return refuse(10, 0);
+    }
+    if out.len() <= count {
+        return refuse(3, 3);
+    }
+    let width = counts + 1;
+    let first = plate.height as usize + tmax - 1;
+    let (mut end, mut error) = (first, sheets.errors[first * width + count]);
+    for row in first + 1..first + tmax {
+        let entry = sheets.errors[row * width + count];
+        if entry < error {
+            (end, error) = (row, entry);
+        }
+    }
+    if error == NONE {
+        return refuse(11, 0);
+    }
+    let boundaries = walk_down(plate, sheets.thicknesses, end, count)?;
+    out[..=count].copy_from_slice(&boundaries[..=count]);
+    Ok(error)
+}
+
+/// The boundaries of the sequence, or 12; M is at most 574.
+fn walk_down(plate: Plate, thicknesses: &[u8], end: usize, count: usize) -> Answer<[i32; 575]> {
+    let (width, tmax) = (plate.counts() + 1, plate.tmax as usize);
+    let mut boundaries = [0; 575];
+    let mut row = end;
+    for layer in (1..=count).rev() {
+        boundaries[layer] = row as i32 - (tmax as i32 - 1);
+        let thickness = usize::from(thicknesses[row * width + layer]);
+        if thickness > row || !plate.allows(thickness as i64) {
+            return refuse(12, layer);
+        }
+        row -= thickness;
+    }
+    if row >= tmax {
+        return refuse(12, 0);
+    }
+    boundaries[0] = row as i32 - (tmax as i32 - 1);
+    Ok(boundaries)
+}

@@ -1,0 +1,349 @@
+// Stands in for the library, by the plain implementation, to try the comparison itself: STANDIN_FAULT plants one of the faults below, and
+// the comparison must find it (bench/faults). Fault 0, or none, is no fault. Used with the feature `standin` only.
+
+use crate::library::{as_lifted, as_loaded, as_pictured, as_reply, as_tabled};
+use crate::library::{JobLoaded, Lifted, Pictured, Reply, Tabled};
+use crate::plain::{self, Filled, Plate, Refusal, Second, Sheets};
+use std::slice::{from_raw_parts, from_raw_parts_mut};
+use std::sync::OnceLock;
+
+pub const FAULTS: &[&str] = &[
+    "no fault",
+    "clear: the last cell keeps what it held",
+    "clear: one cell too many is cleared",
+    "add: twice the share",
+    "add: the second column is counted and not tabulated",
+    "add: every cell is looked at for 6",
+    "add: 4 comes before 7",
+    "add: a refusal still answers a column count",
+    "join: the sum of the counts is not judged",
+    "join: the second table is looked at first for 6",
+    "join: the second table is written",
+    "take off: what is left is not held to its limit",
+    "plan: among equals the thickest layer",
+    "plan: a layer at the bound is left out",
+    "plan: one entry past the list is written",
+    "plan: 7 comes before 3",
+    "read back: among equal ends the highest",
+    "read back: the output is written though 12 is answered",
+    "read back: 3 for the output comes before 10",
+    "read back: an end above 0 is let through",
+    "recount: a difference of two boundaries wraps",
+    "recount: the last boundary may be below N",
+    "picture: a tie is filled",
+    "motor height: 0 has a sign",
+    "read job: bytes after the end are let through",
+    "read job: 17 comes after faults of later records",
+    "read job: the table is cleared and then the job refused",
+    "read job: the remarks begin one kind later",
+    "sizes: a sheet has no count 0",
+    "take off: a greater second count is 9 at 1",
+];
+
+fn fault() -> usize {
+    static FAULT: OnceLock<usize> = OnceLock::new();
+    *FAULT.get_or_init(|| std::env::var("STANDIN_FAULT").ok().and_then(|text| text.parse().ok()).unwrap_or(0))
+}
+
+fn is(text: &str) -> bool {
+    fault() != 0 && FAULTS[fault()] == text
+}
+
+unsafe fn lent<'a, T>(start: *const T, length: usize) -> &'a [T] {
+    from_raw_parts(start, length)
+}
+
+unsafe fn lent_mut<'a, T>(start: *mut T, length: usize) -> &'a mut [T] {
+    from_raw_parts_mut(start, length)
+}
+
+#[no_mangle]
+unsafe extern "C" fn shagorent_clear_table(table: *mut u32, n: usize, height: u32, set: u32) -> Tabled {
+    let cells = lent_mut(table, n);
+    let answer = plain::clear_table(cells, height, set);
+    if answer.is_ok() && is("clear: the last cell keeps what it held") {
+        cells[Plate::new(height, set).unwrap().cells() - 1] = 77;
+    }
+    if answer.is_ok() && is("clear: one cell too many is cleared") {
+        *table.add(Plate::new(height, set).unwrap().cells()) = 0;
+    }
+    as_tabled(answer)
+}
+
+#[no_mangle]
+unsafe extern "C" fn shagorent_add_column(
+    table: *mut u32,
+    n: usize,
+    height: u32,
+    set: u32,
+    columns: u32,
+    column: *const u16,
+    boundaries: usize,
+) -> Tabled {
+    let (table, column) = (lent_mut(table, n), lent(column, boundaries));
+    let before = table.to_vec();
+    let mut answer = plain::add_column(table, height, set, columns, column);
+    if answer.is_ok() && is("add: twice the share") {
+        table.iter_mut().zip(&before).for_each(|(cell, before)| *cell += *cell - before);
+    }
+    if answer.is_ok() && columns == 1 && is("add: the second column is counted and not tabulated") {
+        table.copy_from_slice(&before);
+    }
+    if answer.is_ok() && is("add: every cell is looked at for 6") {
+        let plate = Plate::new(height, set).unwrap();
+        if let Some(cell) = (0..plate.cells()).find(|&i| before[i] > plate.limit(i, columns)) {
+            table.copy_from_slice(&before);
+            answer = Err(Refusal { number: 6, place: cell as u64 });
+        }
+    }
+    if answer.err().is_some_and(|r| r.number == 7) && boundaries % 2 == 1 && is("add: 4 comes before 7") {
+        answer = Err(Refusal { number: 4, place: boundaries as u64 });
+    }
+    let mut tabled = as_tabled(answer);
+    if answer.is_err() && is("add: a refusal still answers a column count") {
+        tabled.columns = columns;
+    }
+    tabled
+}
+
+#[no_mangle]
+unsafe extern "C" fn shagorent_join_tables(
+    table: *mut u32,
+    n: usize,
+    height: u32,
+    set: u32,
+    columns: u32,
+    other: *const u32,
+    m: usize,
+    other_height: u32,
+    other_set: u32,
+    other_columns: u32,
+) -> Tabled {
+    let second = Second { cells: lent(other, m), height: other_height, set: other_set, columns: other_columns };
+    let mut answer = plain::join_tables(lent_mut(table, n), height, set, columns, second);
+    if answer.err().is_some_and(|r| r.number == 7) && is("join: the sum of the counts is not judged") {
+        answer = Ok(columns.wrapping_add(other_columns));
+    }
+    if answer.err().is_some_and(|r| r.number == 6) && is("join: the second table is looked at first for 6") {
+        let plate = Plate::new(height, set).unwrap();
+        let bad = |&i: &usize| second.cells[i] > plate.limit(i, other_columns);
+        if let Some(cell) = (0..plate.cells()).find(bad) {
+            answer = Err(Refusal { number: 6, place: cell as u64 });
+        }
+    }
+    if answer.is_ok() && is("join: the second table is written") {
+        *other.cast_mut() += 1;
+    }
+    as_tabled(answer)
+}
+
+#[no_mangle]
+unsafe extern "C" fn shagorent_take_off(
+    table: *mut u32,
+    n: usize,
+    height: u32,
+    set: u32,
+    columns: u32,
+    other: *const u32,
+    m: usize,
+    other_height: u32,
+    other_set: u32,
+    other_columns: u32,
+) -> Tabled {
+    let second = Second { cells: lent(other, m), height: other_height, set: other_set, columns: other_columns };
+    let table = lent_mut(table, n);
+    let mut answer = plain::take_off(table, height, set, columns, second);
+    let refused_9 = answer.err().is_some_and(|r| r.number == 9);
+    if refused_9 && other_columns > columns && is("take off: a greater second count is 9 at 1") {
+        answer = Err(Refusal { number: 9, place: 1 });
+    }
+    if refused_9 && other_columns <= columns && is("take off: what is left is not held to its limit") {
+        let cells = Plate::new(height, set).unwrap().cells();
+        if (0..cells).all(|i| table[i] >= second.cells[i]) {
+            (0..cells).for_each(|i| table[i] -= second.cells[i]);
+            answer = Ok(columns - other_columns);
+        }
+    }
+    as_tabled(answer)
+}
+
+#[no_mangle]
+unsafe extern "C" fn shagorent_plan(
+    table: *const u32,
+    n: usize,
+    height: u32,
+    set: u32,
+    columns: u32,
+    bound: u32,
+    errors: *mut u64,
+    e: usize,
+    thicknesses: *mut u8,
+    t: usize,
+    list: *mut u64,
+    l: usize,
+) -> Reply {
+    let (table, errors, thicknesses) = (lent(table, n), lent_mut(errors, e), lent_mut(thicknesses, t));
+    let sheets = Sheets { errors, thicknesses, list: lent_mut(list, l) };
+    let left_out = bound < u32::MAX && is("plan: a layer at the bound is left out");
+    let used = if left_out { bound.saturating_sub(1) } else { bound };
+    let mut answer = plain::plan(table, height, set, columns, used, sheets);
+    if answer.is_ok() && is("plan: among equals the thickest layer") {
+        thickest(Plate::new(height, set).unwrap(), table, bound, errors, thicknesses);
+    }
+    if answer.is_ok() && is("plan: one entry past the list is written") {
+        *list.add(Plate::new(height, set).unwrap().counts()) = 0;
+    }
+    let short = answer.err().is_some_and(|r| r.number == 3);
+    if short && columns > plain::MOST_COLUMNS && is("plan: 7 comes before 3") {
+        answer = Err(Refusal { number: 7, place: 0 });
+    }
+    as_reply(answer)
+}
+
+fn thickest(plate: Plate, table: &[u32], bound: u32, errors: &[u64], thicknesses: &mut [u8]) {
+    for height in plate.lowest()..=plate.highest() {
+        for count in 1..=plate.counts() {
+            let entry = plate.entry(height, count);
+            for t in plate.thicknesses().filter(|t| height - t >= plate.lowest()) {
+                let before = errors[plate.entry(height - t, count - 1)];
+                let error = table[plate.cell(height - t, t)];
+                if before < plain::NONE && error <= bound && before + u64::from(error) == errors[entry] {
+                    thicknesses[entry] = t as u8;
+                }
+            }
+        }
+    }
+}
+
+#[no_mangle]
+unsafe extern "C" fn shagorent_read_back(
+    height: u32,
+    set: u32,
+    errors: *const u64,
+    e: usize,
+    thicknesses: *const u8,
+    t: usize,
+    count: u32,
+    out: *mut i32,
+    o: usize,
+) -> Reply {
+    let sheets = Filled { errors: lent(errors, e), thicknesses: lent(thicknesses, t) };
+    let out = lent_mut(out, o);
+    let mut answer = plain::read_back(height, set, sheets, count, out);
+    let refused = answer.err().map_or(0, |r| r.number);
+    if refused == 12 && is("read back: the output is written though 12 is answered") {
+        out[count as usize] = height as i32;
+    }
+    if refused == 10 && o <= count as usize && is("read back: 3 for the output comes before 10") {
+        answer = Err(Refusal { number: 3, place: 3 });
+    }
+    if answer == Err(Refusal { number: 12, place: 0 }) && is("read back: an end above 0 is let through") {
+        answer = Ok(0);
+    }
+    if refused == 0 && is("read back: among equal ends the highest") {
+        let plate = Plate::new(height, set).unwrap();
+        let entry = |h: &i64| sheets.errors[plate.entry(*h, count as usize)];
+        let ends = plate.height..=plate.highest();
+        out[count as usize] = ends.rev().min_by_key(entry).unwrap() as i32;
+    }
+    as_reply(answer)
+}
+
+#[no_mangle]
+unsafe extern "C" fn shagorent_recount(
+    table: *const u32,
+    n: usize,
+    height: u32,
+    set: u32,
+    columns: u32,
+    bound: u32,
+    sequence: *const i32,
+    s: usize,
+) -> Reply {
+    let (table, sequence) = (lent(table, n), lent(sequence, s));
+    let mut answer = plain::recount(table, height, set, columns, bound, sequence);
+    let refused_at = answer.err().filter(|r| r.number == 13).map(|r| r.place as usize);
+    if let Some(i) = refused_at.filter(|&i| i > 0) {
+        let plate = Plate::new(height, set).unwrap();
+        let thickness = i64::from(sequence[i]) - i64::from(sequence[i - 1]);
+        let wrapped = i64::from(sequence[i].wrapping_sub(sequence[i - 1]) & 31);
+        if !plate.allows(thickness) && plate.allows(wrapped) && is("recount: a difference of two boundaries wraps") {
+            answer = Err(Refusal { number: 13, place: i as u64 + 1 });
+        }
+        let last = i == s - 1 && plate.allows(thickness) && i64::from(sequence[i]) < plate.height;
+        if last && is("recount: the last boundary may be below N") {
+            answer = Ok(0);
+        }
+    }
+    as_reply(answer)
+}
+
+#[no_mangle]
+unsafe extern "C" fn shagorent_picture(
+    height: u32,
+    set: u32,
+    column: *const u16,
+    boundaries: usize,
+    start: i32,
+    thickness: u32,
+) -> Pictured {
+    let mut answer = plain::picture(height, set, lent(column, boundaries), start, thickness);
+    if let Ok(picture) = &mut answer {
+        let tie = picture.share * 2 == thickness;
+        picture.filled |= tie && is("picture: a tie is filled");
+    }
+    as_pictured(answer)
+}
+
+#[no_mangle]
+extern "C" fn shagorent_motor_height(step: u32, boundary: i32) -> Lifted {
+    let mut lifted = as_lifted(plain::motor_height(step, boundary));
+    if lifted.number == 0 && boundary == 0 && is("motor height: 0 has a sign") {
+        lifted.height = -0.0;
+    }
+    lifted
+}
+
+#[no_mangle]
+unsafe extern "C" fn shagorent_read_job(
+    input: *const u8,
+    n: usize,
+    most: usize,
+    table: *mut u32,
+    t: usize,
+) -> JobLoaded {
+    let (input, table) = (lent(input, n), lent_mut(table, t));
+    let mut answer = plain::read_job(input, most, table);
+    let refused = answer.err().map_or(0, |r| r.number);
+    if refused == 16 && is("read job: bytes after the end are let through") {
+        let cut = answer.err().map_or(0, |r| r.place as usize);
+        answer = plain::read_job(&input[..cut], most, table).or(answer);
+    }
+    if refused == 17 && is("read job: 17 comes after faults of later records") {
+        let later = plain::read_job(input, usize::MAX, &mut vec![0; 20_000]);
+        answer = Err(later.err().or(answer.err()).unwrap());
+    }
+    if refused == 5 && is("read job: the table is cleared and then the job refused") {
+        table.fill(0);
+    }
+    if refused == 0 && is("read job: the remarks begin one kind later") && input[2..4] == [0, 128] {
+        answer = Err(Refusal { number: 16, place: 0 });
+    }
+    as_loaded(answer)
+}
+
+#[no_mangle]
+extern "C" fn shagorent_cells(height: u32, set: u32) -> Reply {
+    as_reply(plain::cells(height, set))
+}
+
+#[no_mangle]
+extern "C" fn shagorent_entries(height: u32, set: u32) -> Reply {
+    let less = u64::from(is("sizes: a sheet has no count 0"));
+    as_reply(plain::entries(height, set).map(|entries| entries - less))
+}
+
+#[no_mangle]
+extern "C" fn shagorent_counts(height: u32, set: u32) -> Reply {
+    as_reply(plain::counts(height, set))
+}

@@ -1,0 +1,225 @@
+// The plain implementation against the listing of every sequence, on many small random plates and bounds: the table, both sheets, the
+// list, every sequence read back, recounts of good and bad sequences, pictures, tables joined and taken off, and job files.
+
+use bench::brute;
+use bench::plain::*;
+use bench::random::Random;
+
+const SEED: u64 = 1;
+const PLATES: u64 = 4_000;
+
+struct Sample {
+    height: u32,
+    set: u32,
+    table: Vec<u32>,
+    listed: brute::Plate,
+}
+
+fn random_column(random: &mut Random, height: i64) -> Vec<u16> {
+    let mut column: Vec<u16> = (0..=height as u16).filter(|_| random.one_in(3)).collect();
+    if column.len() % 2 == 1 {
+        column.remove(random.index(column.len()));
+    }
+    column
+}
+
+fn sample(case: u64) -> (Sample, Random) {
+    let mut random = Random::new(SEED, case);
+    let height = random.within(1, 8);
+    let tmax = random.within(1, 5);
+    let set: Vec<i64> = (1..=tmax).filter(|&t| t == tmax || random.one_in(2)).collect();
+    let columns = (0..random.below(6)).map(|_| random_column(&mut random, height)).collect();
+    let small = random.below(5) as u32;
+    let bound = random.pick(&[u32::MAX, 0, 1, small]);
+    let bits = set.iter().map(|t| 1 << (t - 1)).sum();
+    let listed = brute::Plate { height, set, columns, bound };
+    let table = tabulate(height as u32, bits, &listed.columns);
+    (Sample { height: height as u32, set: bits, table, listed }, random)
+}
+
+fn tabulate(height: u32, set: u32, columns: &[Vec<u16>]) -> Vec<u32> {
+    let mut table = vec![99; cells(height, set).unwrap() as usize];
+    let mut count = clear_table(&mut table, height, set).unwrap();
+    for column in columns {
+        count = add_column(&mut table, height, set, count, column).unwrap();
+    }
+    table
+}
+
+#[test]
+fn tables_agree() {
+    for case in 0..PLATES {
+        let (sample, _) = sample(case);
+        assert_eq!(sample.table, sample.listed.table(), "case {case}");
+    }
+}
+
+#[test]
+fn plans_agree() {
+    for case in 0..PLATES {
+        let (sample, _) = sample(case);
+        compare_plan(case, &sample);
+    }
+}
+
+fn compare_plan(case: u64, sample: &Sample) {
+    let (height, set) = (sample.height, sample.set);
+    let plate = Plate::new(height, set).unwrap();
+    assert_eq!(plate.counts(), sample.listed.greatest_count());
+    let (mut errors, mut thicknesses) = (vec![7; plate.entries()], vec![7; plate.entries()]);
+    let mut list = vec![7; plate.counts()];
+    let sheets = Sheets { errors: &mut errors, thicknesses: &mut thicknesses, list: &mut list };
+    let columns = sample.listed.columns.len() as u32;
+    let answer = plan(&sample.table, height, set, columns, sample.listed.bound, sheets);
+    assert_eq!(answer, Ok(plate.counts() as u64));
+
+    let chosen = brute::choose(&sample.listed, &sample.listed.every_sequence());
+    assert!(chosen.whole.keys().all(|&count| count <= plate.counts()), "case {case}");
+    for z in plate.lowest()..=plate.highest() {
+        for count in 1..=plate.counts() {
+            let held = chosen.ending.get(&(z, count));
+            let expected = held.map_or((NONE, 0), |s| (s.error, s.thicknesses()[0]));
+            let i = plate.entry(z, count);
+            assert_eq!((errors[i], i64::from(thicknesses[i])), expected, "case {case}, {z}, {count}");
+        }
+        let start = plate.entry(z, 0);
+        let expected = if z <= 0 { 0 } else { NONE };
+        assert_eq!((errors[start], thicknesses[start]), (expected, 0), "case {case}, {z}");
+    }
+    for count in 1..=plate.counts() {
+        let held = chosen.whole.get(&count);
+        assert_eq!(list[count - 1], held.map_or(NONE, |s| s.error), "case {case}, {count}");
+        let mut out = vec![0; count + 1];
+        let filled = Filled { errors: &errors, thicknesses: &thicknesses };
+        let answer = read_back(height, set, filled, count as u32, &mut out);
+        match held {
+            Some(s) => {
+                assert_eq!(answer, Ok(s.error), "case {case}, {count}");
+                let boundaries: Vec<i64> = out.iter().map(|&z| i64::from(z)).collect();
+                assert_eq!(boundaries, s.boundaries, "case {case}, {count}");
+            }
+            None => assert_eq!(answer, Err(Refusal { number: 11, place: 0 }), "case {case}, {count}"),
+        }
+    }
+}
+
+#[test]
+fn recounts_agree() {
+    for case in 0..PLATES {
+        let (sample, mut random) = sample(case);
+        let every = sample.listed.every_sequence();
+        for _ in 0..20 {
+            let from_list = !every.is_empty() && !random.one_in(4);
+            let mut boundaries = if from_list { every[random.index(every.len())].boundaries.clone() } else { vec![] };
+            if random.one_in(2) {
+                spoil(&mut random, &mut boundaries);
+            }
+            compare_recount(case, &sample, &boundaries);
+        }
+    }
+}
+
+fn spoil(random: &mut Random, boundaries: &mut Vec<i64>) {
+    let place = random.index(boundaries.len() + 1);
+    match random.below(3) {
+        0 => boundaries.insert(place, random.within(-6, 14)),
+        1 if place < boundaries.len() => boundaries[place] += random.within(-2, 2),
+        _ => boundaries.truncate(place),
+    }
+}
+
+fn compare_recount(case: u64, sample: &Sample, boundaries: &[i64]) {
+    let sequence: Vec<i32> = boundaries.iter().map(|&z| z as i32).collect();
+    let columns = sample.listed.columns.len() as u32;
+    let answer = recount(&sample.table, sample.height, sample.set, columns, sample.listed.bound, &sequence);
+    let layer = |pair: &[i64]| u64::from(brute::layer_error(&sample.listed.columns, pair[0], pair[1] - pair[0]));
+    if sample.listed.is_admissible(boundaries) {
+        assert_eq!(answer, Ok(boundaries.windows(2).map(layer).sum()), "case {case}, {boundaries:?}");
+    } else {
+        assert_eq!(answer.err().map(|r| r.number), Some(13), "case {case}, {boundaries:?}");
+    }
+}
+
+#[test]
+fn pictures_agree() {
+    for case in 0..PLATES {
+        let (sample, _) = sample(case);
+        let plate = Plate::new(sample.height, sample.set).unwrap();
+        for column in &sample.listed.columns {
+            for start in plate.lowest()..=plate.last_start() {
+                for thickness in plate.thicknesses() {
+                    let (inside, outside) = brute::inside_outside(column, start, thickness);
+                    let expected = Picture { filled: inside > outside, share: inside.min(outside) };
+                    let answer = picture(sample.height, sample.set, column, start as i32, thickness as u32);
+                    assert_eq!(answer, Ok(expected), "case {case}");
+                }
+            }
+        }
+    }
+}
+
+#[test]
+fn groups_agree() {
+    for case in 0..PLATES {
+        let (sample, mut random) = sample(case);
+        let (height, set) = (sample.height, sample.set);
+        let split = random.index(sample.listed.columns.len() + 1);
+        let (first, second) = sample.listed.columns.split_at(split);
+        let other = tabulate(height, set, second);
+        let other = Second { cells: &other, height, set, columns: second.len() as u32 };
+        let mut table = tabulate(height, set, first);
+        let whole = (first.len() + second.len()) as u32;
+        assert_eq!(join_tables(&mut table, height, set, first.len() as u32, other), Ok(whole), "case {case}");
+        assert_eq!(table, sample.listed.table(), "case {case}");
+        assert_eq!(take_off(&mut table, height, set, whole, other), Ok(first.len() as u32), "case {case}");
+        assert_eq!(table, tabulate(height, set, first), "case {case}");
+    }
+}
+
+#[test]
+fn files_agree() {
+    for case in 0..PLATES {
+        let (sample, mut random) = sample(case);
+        let file = file_of(&sample, &mut random);
+        let mut table = vec![99; sample.table.len()];
+        let columns = sample.listed.columns.len() as u32;
+        let bound = sample.listed.bound;
+        let expected = Loaded { height: sample.height, set: sample.set, bound, columns };
+        assert_eq!(read_job(&file, 4_096, &mut table), Ok(expected), "case {case}");
+        assert_eq!(table, sample.listed.table(), "case {case}");
+        for length in 0..file.len() {
+            let answer = read_job(&file[..length], 4_096, &mut table);
+            assert_eq!(answer.err().map(|r| r.number), Some(16), "case {case}, {length}");
+        }
+    }
+}
+
+fn record(file: &mut Vec<u8>, kind: u16, body: &[u8]) {
+    file.extend((body.len() as u16).to_le_bytes());
+    file.extend(kind.to_le_bytes());
+    file.extend(body);
+}
+
+fn file_of(sample: &Sample, random: &mut Random) -> Vec<u8> {
+    let mut file = Vec::new();
+    let mut settings = (sample.height as u16).to_le_bytes().to_vec();
+    settings.extend(sample.set.to_le_bytes());
+    settings.extend(sample.listed.bound.to_le_bytes());
+    remark(&mut file, random);
+    record(&mut file, 1, &settings);
+    for column in &sample.listed.columns {
+        remark(&mut file, random);
+        let body: Vec<u8> = column.iter().flat_map(|b| b.to_le_bytes()).collect();
+        record(&mut file, 2, &body);
+    }
+    remark(&mut file, random);
+    record(&mut file, 3, &(sample.listed.columns.len() as u32).to_le_bytes());
+    file
+}
+
+fn remark(file: &mut Vec<u8>, random: &mut Random) {
+    if random.one_in(3) {
+        let body: Vec<u8> = (0..random.below(9)).map(|_| random.word() as u8).collect();
+        record(file, random.pick(&[32_768, 65_535, 40_000]), &body);
+    }
+}
