@@ -1,29 +1,24 @@
 // The answers of the calls, as lines or parts of them.
+use crate::calls::Job;
+use crate::calls::Told;
+use crate::calls::pictured;
+use crate::calls::refused;
 use crate::show;
 use column::Pictured;
 use motor::Lifted;
 use motor::motor_height;
-use plate::refusal::Answer;
-use table::Tabled;
 
-fn done(number: u64) {
+fn done(value: u64) {
     show::text(b" done");
-    show::next(number);
+    show::next(value);
 }
 
 // The answer of a call that answers one number.
-pub(crate) fn answered(answer: Answer) {
-    match answer {
-        Answer::Refused(refusal) => show::refusal(refusal),
-        Answer::Done(number) => done(number),
-    }
-}
-
-// The answer of a call on a table: its column count.
-pub(crate) fn tallied(answer: Tabled) {
-    match answer {
-        Tabled::Refused(refusal) => show::refusal(refusal),
-        Tabled::Done(tally) => done(tally.columns as u64),
+pub(crate) fn answered(told: Told) {
+    if told.number == 0 {
+        done(told.value);
+    } else {
+        show::refused(told.number, told.value);
     }
 }
 
@@ -36,22 +31,25 @@ fn picture_done(filled: bool, share: u32) {
     show::next32(share);
 }
 
-pub(crate) fn picture_told(answer: Pictured) {
-    match answer {
-        Pictured::Refused(refusal) => show::refusal(refusal),
+// The picture of a column in a layer.
+pub(crate) fn picture_told(column: &[u16], job: Job, start: i32, thickness: u32) {
+    match pictured(column, job, start, thickness) {
+        Pictured::Refused(refusal) => answered(refused(refusal)),
         Pictured::Done(judged) => picture_done(judged.filled, judged.share),
     }
     show::end();
 }
 
+fn bits(height: u32) {
+    show::text(b" bits");
+    show::next32(height);
+}
+
 // The f32 whose eightfold is z times the step, by its bits.
 pub(crate) fn lifted(step: u32, z: i32) {
     match motor_height(step, z) {
-        Lifted::Refused(refusal) => show::refusal(refusal),
-        Lifted::Done(height) => {
-            show::text(b" bits");
-            show::next32(f32::to_bits(height));
-        }
+        Lifted::Refused(refusal) => answered(refused(refusal)),
+        Lifted::Done(height) => bits(f32::to_bits(height)),
     }
     show::end();
 }

@@ -1,10 +1,11 @@
-// The calls of document 01, each on the numbers of a job. They promise nothing here, so that a trial's proof carries none of what the
-// library's calls promise.
+// The calls of document 01, each on the numbers of a job, with the answer as two numbers. They promise nothing here, so that a trial's
+// proof carries none of what the library's calls promise.
 use column::Pictured;
 use column::picture;
 use plan::plan;
 use plan::read_back;
 use plate::refusal::Answer;
+use plate::refusal::Refusal;
 use recount::recount;
 use table::Tabled;
 use table::Tally;
@@ -42,16 +43,47 @@ impl Job {
     }
 }
 
-pub(crate) fn clear(table: &mut [u32], job: Job) -> Tabled {
-    clear_table(table, job.height, job.set)
+// An answer: 0 and what the call returns, or the number of the refusal and its place.
+pub struct Told {
+    pub number: u32,
+    pub value: u64,
 }
 
-pub(crate) fn add(table: &mut [u32], job: Job, column: &[u16]) -> Tabled {
-    add_column(table, job.height, job.set, job.tally(), column)
+pub(crate) fn refused(refusal: Refusal) -> Told {
+    let reason = refusal.reason;
+    Told {
+        number: reason.number(),
+        value: refusal.place,
+    }
 }
 
-fn join(table: &mut [u32], job: Job, other: &[u32], second: Job) -> Tabled {
-    join_tables(
+fn counted(answer: Answer) -> Told {
+    match answer {
+        Answer::Refused(refusal) => refused(refusal),
+        Answer::Done(value) => Told { number: 0, value },
+    }
+}
+
+fn tallied(answer: Tabled) -> Told {
+    match answer {
+        Tabled::Refused(refusal) => refused(refusal),
+        Tabled::Done(tally) => Told {
+            number: 0,
+            value: tally.columns as u64,
+        },
+    }
+}
+
+pub(crate) fn clear(table: &mut [u32], job: Job) -> Told {
+    tallied(clear_table(table, job.height, job.set))
+}
+
+pub(crate) fn add(table: &mut [u32], job: Job, column: &[u16]) -> Told {
+    tallied(add_column(table, job.height, job.set, job.tally(), column))
+}
+
+fn join(table: &mut [u32], job: Job, other: &[u32], second: Job) -> Told {
+    tallied(join_tables(
         table,
         job.height,
         job.set,
@@ -60,11 +92,11 @@ fn join(table: &mut [u32], job: Job, other: &[u32], second: Job) -> Tabled {
         second.height,
         second.set,
         second.tally(),
-    )
+    ))
 }
 
-fn take(table: &mut [u32], job: Job, other: &[u32], second: Job) -> Tabled {
-    take_off(
+fn take(table: &mut [u32], job: Job, other: &[u32], second: Job) -> Told {
+    tallied(take_off(
         table,
         job.height,
         job.set,
@@ -73,7 +105,7 @@ fn take(table: &mut [u32], job: Job, other: &[u32], second: Job) -> Tabled {
         second.height,
         second.set,
         second.tally(),
-    )
+    ))
 }
 
 pub(crate) fn planned(
@@ -82,8 +114,8 @@ pub(crate) fn planned(
     errors: &mut [u64],
     thicknesses: &mut [u8],
     list: &mut [u64],
-) -> Answer {
-    plan(
+) -> Told {
+    counted(plan(
         table,
         job.height,
         job.set,
@@ -92,7 +124,7 @@ pub(crate) fn planned(
         errors,
         thicknesses,
         list,
-    )
+    ))
 }
 
 pub(crate) fn read(
@@ -101,12 +133,12 @@ pub(crate) fn read(
     thicknesses: &[u8],
     count: u32,
     out: &mut [i32],
-) -> Answer {
-    read_back(job.height, job.set, errors, thicknesses, count, out)
+) -> Told {
+    counted(read_back(job.height, job.set, errors, thicknesses, count, out))
 }
 
-pub(crate) fn recounted(table: &[u32], job: Job, sequence: &[i32]) -> Answer {
-    recount(table, job.height, job.set, job.tally(), job.bound, sequence)
+pub(crate) fn recounted(table: &[u32], job: Job, sequence: &[i32]) -> Told {
+    counted(recount(table, job.height, job.set, job.tally(), job.bound, sequence))
 }
 
 pub(crate) fn pictured(column: &[u16], job: Job, start: i32, thickness: u32) -> Pictured {
@@ -114,7 +146,7 @@ pub(crate) fn pictured(column: &[u16], job: Job, start: i32, thickness: u32) -> 
 }
 
 // The second joined into the first, or taken off it.
-pub(crate) fn paired(off: bool, table: &mut [u32], job: Job, other: &[u32], second: Job) -> Tabled {
+pub(crate) fn paired(off: bool, table: &mut [u32], job: Job, other: &[u32], second: Job) -> Told {
     if off {
         return take(table, job, other, second);
     }

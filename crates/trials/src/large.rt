@@ -1,7 +1,7 @@
 // Plates of the greatest height, in buffers for the greatest sizes: both sides of the height's limit, and one plate at full size.
 use crate::answers::answered;
-use crate::answers::tallied;
 use crate::calls::Job;
+use crate::calls::Told;
 use crate::calls::add;
 use crate::calls::clear;
 use crate::calls::paired;
@@ -12,11 +12,10 @@ use crate::lend::part16;
 use crate::limits::rising;
 use crate::plans::plan_trial;
 use crate::show;
-use table::Tabled;
 
 // The end of a line: the answer of a call on a table, and a digest of its buffer.
-fn table_told(answer: Tabled, table: &[u32]) {
-    tallied(answer);
+fn table_told(told: Told, table: &[u32]) {
+    answered(told);
     show::text(b", digest");
     show_digest32(table);
     show::end();
@@ -26,14 +25,14 @@ fn table_told(answer: Tabled, table: &[u32]) {
 fn cleared(table: &mut [u32], job: Job) {
     fill32(table, 77);
     show::text(b"clear:");
-    let answer = clear(table, job);
-    table_told(answer, table);
+    let told = clear(table, job);
+    table_told(told, table);
 }
 
 fn added(table: &mut [u32], job: Job, column: &[u16]) {
     show::text(b"add:");
-    let answer = add(table, job, column);
-    table_told(answer, table);
+    let told = add(table, job, column);
+    table_told(told, table);
 }
 
 // A plate with layers of 2 at a height.
@@ -49,14 +48,14 @@ fn one_column(table: &mut [u32], height: u32, column: &[u16]) {
 
 // The end of a line: a second table of one column joined into the first, or taken off it.
 fn paired_line(off: bool, height: u32, columns: u32, table: &mut [u32], other: &[u32]) {
-    let answer = paired(
+    let told = paired(
         off,
         table,
         job_at(height, columns),
         other,
         job_at(height, 1),
     );
-    table_told(answer, table);
+    table_told(told, table);
 }
 
 fn join_and_part(height: u32, table: &mut [u32], other: &[u32]) {

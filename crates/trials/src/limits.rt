@@ -3,7 +3,6 @@ use crate::answers::answered;
 use crate::answers::lifted;
 use crate::answers::picture_told;
 use crate::calls::Job;
-use crate::calls::pictured;
 use crate::calls::recounted;
 use crate::lend::part16;
 use crate::lend::show_heights;
@@ -66,7 +65,7 @@ fn picture_heading(boundaries: usize, height: u32, start: i32, thickness: u32) {
 
 fn picture_line(column: &[u16], height: u32, start: i32, thickness: u32) {
     picture_heading(column.len(), height, start, thickness);
-    picture_told(pictured(column, Job::of(height, 6, 1), start, thickness));
+    picture_told(column, Job::of(height, 6, 1), start, thickness);
 }
 
 // A column of two boundaries.

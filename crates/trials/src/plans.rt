@@ -1,6 +1,7 @@
 // A plan in buffers for the greatest sizes, with digests of what it fills, and some counts read back from it.
 use crate::answers::answered;
 use crate::calls::Job;
+use crate::calls::Told;
 use crate::calls::planned;
 use crate::calls::read;
 use crate::calls::recounted;
@@ -11,11 +12,10 @@ use crate::lend::fill64;
 use crate::lend::part_signed;
 use crate::lend::show_heights;
 use crate::show;
-use plate::refusal::Answer;
 
 // The end of a line: the answer of a plan, and a digest of all that it fills.
-fn plan_told(answer: Answer, errors: &[u64], thicknesses: &[u8], list: &[u64]) {
-    answered(answer);
+fn plan_told(told: Told, errors: &[u64], thicknesses: &[u8], list: &[u64]) {
+    answered(told);
     show::text(b", digests");
     show_digest64(errors);
     show_digest8(thicknesses);
@@ -31,8 +31,8 @@ fn plan_line(
     list: &mut [u64],
 ) {
     show::text(b"plan:");
-    let answer = planned(table, job, errors, thicknesses, list);
-    plan_told(answer, errors, thicknesses, list);
+    let told = planned(table, job, errors, thicknesses, list);
+    plan_told(told, errors, thicknesses, list);
 }
 
 // What stands in the sheets and the list before a plan.
@@ -60,9 +60,9 @@ fn count_heading(n: u32) {
 fn count_line(job: Job, table: &[u32], errors: &[u64], thicknesses: &[u8], n: u32) {
     let mut out = [7i32; 600];
     count_heading(n);
-    let answer = read(job, errors, thicknesses, n, &mut out);
-    answered(answer);
-    if let Answer::Done(_) = answer {
+    let told = read(job, errors, thicknesses, n, &mut out);
+    answered(told);
+    if told.number == 0 {
         sequence_told(job, table, part_signed(&out, n as usize + 1));
     }
     show::end();

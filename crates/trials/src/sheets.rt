@@ -1,5 +1,6 @@
 // The calls on sheets: plan and read back. The plate is that of document 01, both columns; each sheet has 45 entries, the list 4.
 use crate::answers::answered;
+use crate::calls::Told;
 use crate::calls::planned;
 use crate::calls::read;
 use crate::lend::filled_signed;
@@ -23,7 +24,6 @@ use crate::small::job_of;
 use crate::small::table_ab;
 use crate::spoil::Pair;
 use crate::tables::spoiled_ab;
-use plate::refusal::Answer;
 
 // The entry that stands for none.
 const NONE: u64 = 18446744073709551615;
@@ -54,20 +54,13 @@ fn sheets(errors: &[u64; 96], thicknesses: &[u8; 96], list: &[u64; 96]) {
 }
 
 // The end of a line: the answer of a plan, both sheets and the list where it is not refused, and whether other memory is as before.
-fn plan_told(
-    answer: Answer,
-    errors: &[u64; 96],
-    thicknesses: &[u8; 96],
-    list: &[u64; 96],
-    rest: bool,
-) {
-    answered(answer);
-    match answer {
-        Answer::Refused(_) => sheets_kept(errors, thicknesses, list, 0, 0, rest),
-        Answer::Done(_) => {
-            sheets(errors, thicknesses, list);
-            sheets_kept(errors, thicknesses, list, 45, 4, rest);
-        }
+fn plan_told(told: Told, errors: &[u64; 96], thicknesses: &[u8; 96], list: &[u64; 96], rest: bool) {
+    answered(told);
+    if told.number == 0 {
+        sheets(errors, thicknesses, list);
+        sheets_kept(errors, thicknesses, list, 45, 4, rest);
+    } else {
+        sheets_kept(errors, thicknesses, list, 0, 0, rest);
     }
 }
 
@@ -78,7 +71,7 @@ fn plan_lent(
     errors: &mut [u64],
     thicknesses: &mut [u8],
     list: &mut [u64],
-) -> Answer {
+) -> Told {
     planned(
         part32(table, p.size(3, 24)),
         p.job(p.pick(7, 1000001, p.columns)),
@@ -94,9 +87,9 @@ pub(crate) fn plan_trial(p: Pair) {
     let mut errors = filled64(7);
     let mut thicknesses = filled8(17);
     let mut list = filled64(5);
-    let answer = plan_lent(p, &table, &mut errors, &mut thicknesses, &mut list);
+    let told = plan_lent(p, &table, &mut errors, &mut thicknesses, &mut list);
     let rest = same32(&table, &spoiled_ab(p, 8), 0);
-    plan_told(answer, &errors, &thicknesses, &list, rest);
+    plan_told(told, &errors, &thicknesses, &list, rest);
 }
 
 // Spoiler 7: no entry of count 3 at an end height. Spoiler 10: an entry of count 1 at height 4.
@@ -123,15 +116,14 @@ fn out_kept(out: &[i32; 96], from: usize, rest: bool) {
 }
 
 // The end of a line: the answer of reading back, the boundaries where it is not refused, and whether other memory is as before.
-fn read_told(answer: Answer, out: &[i32; 96], boundaries: usize, rest: bool) {
-    answered(answer);
-    match answer {
-        Answer::Refused(_) => out_kept(out, 0, rest),
-        Answer::Done(_) => {
-            show::text(b" at");
-            show_heights(out, boundaries);
-            out_kept(out, boundaries, rest);
-        }
+fn read_told(told: Told, out: &[i32; 96], boundaries: usize, rest: bool) {
+    answered(told);
+    if told.number == 0 {
+        show::text(b" at");
+        show_heights(out, boundaries);
+        out_kept(out, boundaries, rest);
+    } else {
+        out_kept(out, 0, rest);
     }
 }
 
@@ -142,7 +134,7 @@ fn read_lent(
     thicknesses: &[u8],
     boundaries: usize,
     out: &mut [i32],
-) -> Answer {
+) -> Told {
     read(
         p.job(2),
         part64(errors, p.size(3, 45)),
@@ -158,9 +150,9 @@ fn read_sheets(p: Pair, errors: [u64; 96], thicknesses: [u8; 96]) {
     let thicknesses_before = thicknesses;
     let mut out = filled_signed(7);
     let boundaries = p.pick_size(5, 6, p.pick_size(10, 2, 4));
-    let answer = read_lent(p, &errors, &thicknesses, boundaries, &mut out);
+    let told = read_lent(p, &errors, &thicknesses, boundaries, &mut out);
     let rest = same64(&errors, &errors_before, 0) && same8(&thicknesses, &thicknesses_before, 0);
-    read_told(answer, &out, boundaries, rest);
+    read_told(told, &out, boundaries, rest);
 }
 
 // Read back: 1, 2, 3 by the errors and the thicknesses, 10, 3 by the output, 11, 12 at 3, at 1 and at 0.

@@ -1,7 +1,6 @@
 // What the trials print: words, numbers, heights, refusals, and whether lent memory was kept.
 use crate::lend::part8;
 use libc::STDOUT_FILENO;
-use plate::refusal::Refusal;
 use text::put_signed;
 
 pub(crate) fn text(words: &[u8]) {
@@ -43,12 +42,11 @@ pub(crate) fn next_height(z: i32) {
     text(part8(&shown, end));
 }
 
-pub(crate) fn refusal(refusal: Refusal) {
-    let reason = refusal.reason;
+pub(crate) fn refused(number: u32, place: u64) {
     text(b" refused");
-    next32(reason.number());
+    next32(number);
     text(b" at");
-    next(refusal.place);
+    next(place);
 }
 
 // The end of a line: whether lent memory that the call is not to write is as it was.

@@ -1,7 +1,6 @@
 // The calls on one column and on one boundary: picture and motor height.
 use crate::answers::lifted;
 use crate::answers::picture_told;
-use crate::calls::pictured;
 use crate::lend::part16;
 use crate::spoil::Pair;
 
@@ -10,7 +9,7 @@ pub(crate) fn picture_trial(p: Pair) {
     let column = [p.pick16(4, 3, 1), 3, 4];
     let lent = part16(&column, p.pick_size(3, 3, 2));
     let start = p.pick_signed(5, 6, 0);
-    picture_told(pictured(lent, p.job(1), start, p.pick(6, 1, 2)));
+    picture_told(lent, p.job(1), start, p.pick(6, 1, 2));
 }
 
 // Motor height: 14, 15.

@@ -1,13 +1,13 @@
 // Document 01's plate: height 4, thicknesses 2 and 3, so 24 cells; its columns A and B; and the answers of calls on its tables, as lines.
-use crate::answers::tallied;
+use crate::answers::answered;
 use crate::calls::Job;
+use crate::calls::Told;
 use crate::calls::add;
 use crate::calls::clear;
 use crate::lend::filled32;
 use crate::lend::same32;
 use crate::lend::show32;
 use crate::show;
-use table::Tabled;
 
 // The plate with so many columns and no bound in effect.
 pub(crate) fn job_of(columns: u32) -> Job {
@@ -23,17 +23,18 @@ fn cells(table: &[u32; 96], before: &[u32; 96], rest: bool) {
 }
 
 // The end of a line: the answer of a call on a table, the cells, and whether the whole of its buffer is as another.
-pub(crate) fn tabled_as(answer: Tabled, table: &[u32; 96], expected: &[u32; 96]) {
-    tallied(answer);
+pub(crate) fn tabled_as(told: Told, table: &[u32; 96], expected: &[u32; 96]) {
+    answered(told);
     cells(table, expected, same32(table, expected, 0));
 }
 
 // The end of a line: the answer of a call on a table, the cells where it is not refused, and whether memory was kept.
-pub(crate) fn tabled(answer: Tabled, table: &[u32; 96], before: &[u32; 96], rest: bool) {
-    tallied(answer);
-    match answer {
-        Tabled::Refused(_) => show::kept(same32(table, before, 0) && rest),
-        Tabled::Done(_) => cells(table, before, rest),
+pub(crate) fn tabled(told: Told, table: &[u32; 96], before: &[u32; 96], rest: bool) {
+    answered(told);
+    if told.number == 0 {
+        cells(table, before, rest);
+    } else {
+        show::kept(same32(table, before, 0) && rest);
     }
 }
 

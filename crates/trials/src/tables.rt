@@ -1,5 +1,6 @@
 // The calls on tables: clear, add, join, take off. The plate is that of document 01: height 4, thicknesses 2 and 3, so 24 cells.
 use crate::calls::Job;
+use crate::calls::Told;
 use crate::calls::add;
 use crate::calls::clear;
 use crate::calls::paired;
@@ -14,7 +15,6 @@ use crate::small::table_ab;
 use crate::small::table_b;
 use crate::small::tabled;
 use crate::spoil::Pair;
-use table::Tabled;
 
 // The table of both, with a cell out of bounds by spoiler k.
 pub(crate) fn spoiled_ab(p: Pair, k: u32) -> [u32; 96] {
@@ -27,12 +27,12 @@ pub(crate) fn spoiled_ab(p: Pair, k: u32) -> [u32; 96] {
 pub(crate) fn clear_trial(p: Pair) {
     let mut table = filled32(77);
     let before = table;
-    let answer = clear(front32(&mut table, p.size(3, 24)), p.job(0));
-    tabled(answer, &table, &before, true);
+    let told = clear(front32(&mut table, p.size(3, 24)), p.job(0));
+    tabled(told, &table, &before, true);
 }
 
 // A column added to the front of a buffer.
-fn add_lent(p: Pair, table: &mut [u32]) -> Tabled {
+fn add_lent(p: Pair, table: &mut [u32]) -> Told {
     let column = [p.pick16(6, 3, 0), p.pick16(6, 0, 3), 4];
     let job = p.job(p.pick(4, 1000000, p.columns));
     add(
@@ -46,8 +46,8 @@ fn add_lent(p: Pair, table: &mut [u32]) -> Tabled {
 pub(crate) fn add_trial(p: Pair) {
     let mut table = spoiled_ab(p, 7);
     let before = table;
-    let answer = add_lent(p, &mut table);
-    tabled(answer, &table, &before, true);
+    let told = add_lent(p, &mut table);
+    tabled(told, &table, &before, true);
 }
 
 // Adding looks at no cell of a thickness that is not allowed, nor at one where the column has no share.
@@ -57,8 +57,8 @@ pub(crate) fn overlooked() {
     table[19] = 4000000000;
     let before = table;
     show::text(b"add overlooks:");
-    let answer = add(&mut table, job_of(2), &[0, 3]);
-    tabled(answer, &table, &before, true);
+    let told = add(&mut table, job_of(2), &[0, 3]);
+    tabled(told, &table, &before, true);
 }
 
 // The table of column B, with a cell out of bounds by spoiler 10, and one that no part of both has by spoiler 12.
@@ -75,7 +75,7 @@ fn second_job(p: Pair, columns: u32) -> Job {
 }
 
 // The front of the second joined into that of the first, or taken off it.
-fn pair_lent(p: Pair, off: bool, table: &mut [u32], other: &[u32], more: u32) -> Tabled {
+fn pair_lent(p: Pair, off: bool, table: &mut [u32], other: &[u32], more: u32) -> Told {
     paired(
         off,
         front32(table, p.size(6, 24)),
@@ -90,8 +90,8 @@ fn pair_trial(p: Pair, off: bool, more: u32) {
     let mut table = spoiled_ab(p, 9);
     let before = table;
     let other = second_table(p);
-    let answer = pair_lent(p, off, &mut table, &other, more);
-    tabled(answer, &table, &before, same32(&other, &second_table(p), 0));
+    let told = pair_lent(p, off, &mut table, &other, more);
+    tabled(told, &table, &before, same32(&other, &second_table(p), 0));
 }
 
 // Join: 1 and 2 of the first, 1 and 2 of the second, 8, 3 of the first, 3 of the second, 7, 6 of the first, 6 of the second.

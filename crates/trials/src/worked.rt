@@ -19,16 +19,16 @@ fn counts(job: Job, table: &[u32]) {
 fn joined() -> [u32; 96] {
     let mut table = table_a();
     show::text(b"A joined with B:");
-    let answer = paired(false, &mut table, job_of(1), &table_b(), job_of(1));
-    tabled_as(answer, &table, &table_ab());
+    let told = paired(false, &mut table, job_of(1), &table_b(), job_of(1));
+    tabled_as(told, &table, &table_ab());
     table
 }
 
 // The table of B taken off again, which leaves that of A.
 fn parted(mut table: [u32; 96]) {
     show::text(b"B taken off:");
-    let answer = paired(true, &mut table, job_of(2), &table_b(), job_of(1));
-    tabled_as(answer, &table, &table_a());
+    let told = paired(true, &mut table, job_of(2), &table_b(), job_of(1));
+    tabled_as(told, &table, &table_a());
 }
 
 // P8 and P9: each column alone.
