@@ -1,5 +1,6 @@
 // The error table of a plate: clear it, add a column, join a second table into it, take one off.
 ghost use mathlib.Core.Path.{_≡_};
+ghost use mathlib.Core.Bool.{false};
 ghost use Prim.Native.Nat.{ℕ, _+_, _-_, _*_, _<_, _≤_};
 ghost use lib.ListN.{length, getD};
 ghost use Rattle.lists.specs.Checks.{first};
@@ -81,8 +82,29 @@ fn limits_of(set: u32, columns: u32) -> [u32; 32]
     limits
 }
 
-// The first cell of a row that is above its limit, or the row's width.
-fn above_row(table: &[u32], limits: &[u32; 32], base: usize, width: usize) -> usize
+// 1 where a cell is above its limit, and 0 elsewhere.
+fn exceeds(limit: u32, cell: u32) -> u32
+    ensures { λ r. ⌜ (r ≤ 1) × (r ≡ 0 → cell ≤ limit) ⌝ }
+{
+    if limit < cell { 1 } else { 0 }
+}
+
+// How many cells of a row are above their limits. The loop has no way out, so that it is quick where there is none, as there mostly is.
+fn count_above(table: &[u32], limits: &[u32; 32], base: usize, width: usize) -> u32
+    requires { ⌜ (width ≤ 32) × (base + width ≤ length (now table)) ⌝ }
+    ensures { λ r. ⌜ (r ≡ 0 → (j : ℕ) → j < width → above (now (limits .entry)) (now (table .entry)) base j ≡ false) ⌝ }
+{
+    let mut count: u32 = 0;
+    let mut j: usize = 0;
+    while j < width {
+        count += exceeds(limits[j], table[base + j]);
+        j += 1;
+    }
+    count
+}
+
+// The first cell of a row that is above its limit, or the row's width, cell by cell.
+fn search_above(table: &[u32], limits: &[u32; 32], base: usize, width: usize) -> usize
     requires { ⌜ (width ≤ 32) × (base + width ≤ length (now table)) ⌝ }
     ensures { λ r. ⌜ r ≡ lowest (above (now (limits .entry)) (now (table .entry)) base) width ⌝ }
 {
@@ -94,6 +116,17 @@ fn above_row(table: &[u32], limits: &[u32; 32], base: usize, width: usize) -> us
         j += 1;
     }
     j
+}
+
+// The same, where there is mostly none.
+fn above_row(table: &[u32], limits: &[u32; 32], base: usize, width: usize) -> usize
+    requires { ⌜ (width ≤ 32) × (base + width ≤ length (now table)) ⌝ }
+    ensures { λ r. ⌜ r ≡ lowest (above (now (limits .entry)) (now (table .entry)) base) width ⌝ }
+{
+    if count_above(table, limits, base, width) == 0 {
+        return width;
+    }
+    search_above(table, limits, base, width)
 }
 
 // The lowest cell out of bounds for so many columns, or the number of cells.
@@ -115,8 +148,38 @@ fn first_out(table: &[u32], s: Settings, columns: u32) -> usize
     s.cells
 }
 
-// The first cell of a row where the difference of two tables is negative or above its limit, or the row's width.
-fn apart_row(table: &[u32], other: &[u32], limits: &[u32; 32], base: usize, width: usize) -> usize
+// 1 where a difference is negative or above its limit, and 0 elsewhere.
+fn parts(limit: u32, cell: u32, other: u32) -> u32
+    ensures { λ r. ⌜ (r ≤ 1) × (r ≡ 0 → (other ≤ cell) × (cell - other ≤ limit)) ⌝ }
+{
+    if cell < other {
+        return 1;
+    }
+    exceeds(limit, cell - other)
+}
+
+// How many differences of a row are negative or above their limits.
+fn count_apart(table: &[u32], other: &[u32], limits: &[u32; 32], base: usize, width: usize) -> u32
+    requires { ⌜ (width ≤ 32) × ((base + width ≤ length (now table)) × (base + width ≤ length (now other))) ⌝ }
+    ensures { λ r. ⌜ (r ≡ 0 → (j : ℕ) → j < width → apart (now (limits .entry)) (now (table .entry)) (now (other .entry)) base j ≡ false) ⌝ }
+{
+    let mut count: u32 = 0;
+    let mut j: usize = 0;
+    while j < width {
+        count += parts(limits[j], table[base + j], other[base + j]);
+        j += 1;
+    }
+    count
+}
+
+// The first cell of a row where the difference of two tables is negative or above its limit, or the row's width, cell by cell.
+fn search_apart(
+    table: &[u32],
+    other: &[u32],
+    limits: &[u32; 32],
+    base: usize,
+    width: usize,
+) -> usize
     requires { ⌜ (width ≤ 32) × ((base + width ≤ length (now table)) × (base + width ≤ length (now other))) ⌝ }
     ensures { λ r. ⌜ r ≡ lowest (apart (now (limits .entry)) (now (table .entry)) (now (other .entry)) base) width ⌝ }
 {
@@ -133,6 +196,17 @@ fn apart_row(table: &[u32], other: &[u32], limits: &[u32; 32], base: usize, widt
         j += 1;
     }
     j
+}
+
+// The same, where there is mostly none.
+fn apart_row(table: &[u32], other: &[u32], limits: &[u32; 32], base: usize, width: usize) -> usize
+    requires { ⌜ (width ≤ 32) × ((base + width ≤ length (now table)) × (base + width ≤ length (now other))) ⌝ }
+    ensures { λ r. ⌜ r ≡ lowest (apart (now (limits .entry)) (now (table .entry)) (now (other .entry)) base) width ⌝ }
+{
+    if count_apart(table, other, limits, base, width) == 0 {
+        return width;
+    }
+    search_apart(table, other, limits, base, width)
 }
 
 // The lowest cell of the second table that is no part of the first's, or the number of cells.

@@ -1,40 +1,15 @@
--- `apart_row` meets its contract. The loop's invariant: none of the first j differences is negative or above its limit. Assumes nothing.
-use mathlib.Core.Path.{_≡_}
-use mathlib.Core.Bool.{false}
-use Prim.Native.Nat.{ℕ, _-_, _≤_, _<_}
-use native.Mathlib.Omega.{arith}
-use borrow.Author.Count.{below-none, below-more}
+-- `apart_row` meets its contract: where nothing is counted the search would find nothing. Assumes nothing.
+use mathlib.Core.Path.{sym}
 use borrow.Author.Needs.{needs}
-use Rattle.lists.proofs.Search.{found, missed}
-use Rattle.table.specs.Limits.{apart}
-use Rattle.table.proofs.Limits.{apart-negative, apart-above, apart-no}
+use Rattle.lists.proofs.Search.{lowest-none}
 use Rattle.table.proofs.apart_row.Statement.{statement}
 use Rattle.table.proofs.apart_row.Tie as tie
-
-abbrev Inv-loop : tie.InvT-loop
-Inv-loop table other limits base width j₀ j = (j ≤ width) × ((k : ℕ) → k < j → apart limits table other base k ≡ false)
-
-abbrev μ-loop : tie.MeasureT-loop
-μ-loop table other limits base width j₀ j = width - j
 
 pub apart-row-spec : {M : Type 1} → statement M
 apart-row-spec =
     tie.close
     (tie.spec
-    Inv-loop
-    μ-loop
-    (λ c. (omega arith, below-none _))
-    (λ c. search needs)
-    (λ c. search needs)
-    (λ c. search needs)
-    (λ c. search needs)
-    (λ c. search needs)
-    (λ c. search needs)
-    (λ c. found _ _ _ (omega arith) (c .before .before .before .before .loop .inv .1) (apart-negative _ _ _ _ _ (c .if1 .taken)))
-    (λ c. search needs)
-    (λ c. search needs)
-    (λ c. found _ _ _ (omega arith) (c .before .before .before .before .before .before .loop .inv .1) (apart-above _ _ _ _ _ (c .before .before .if1 .left) (c .if2 .taken)))
-    (λ c. search needs)
-    (λ c. search needs)
-    (λ c. (omega arith, below-more _ _ (c .before .before .before .before .before .before .loop .inv .1) (apart-no _ _ _ _ _ (c .before .before .if1 .left) (c .if2 .left))))
-    (λ c. missed _ _ _ (omega arith) (omega arith) (c .before .loop .inv .1)))
+    (λ c κs. search needs)
+    (λ c. sym (lowest-none _ _ (c .before .count-apart .ensures (c .if1 .taken))))
+    (λ c κs. search needs)
+    (λ c. c .search-apart .ensures))
