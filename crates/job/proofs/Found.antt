@@ -16,7 +16,7 @@ use Rattle.plate.specs.Refusal.{Told, done, refused, Numbered, toldBy}
 use Rattle.plate.specs.Settings.{settingsChecks}
 use Rattle.column.specs.Order.{columnChecks}
 use Rattle.job.specs.Bytes.{le16, le32, words}
-use Rattle.job.specs.Record.{Kind, settings, column, ending, remark, unknown, kindOf, placed, boundariesAt, bodyChecks, kindChecks, asked, What, ended, begin, counted, found, Moved, moved, recordOf, pastEnd, readRecord}
+use Rattle.job.specs.Record.{Kind, settings, column, ending, remark, unknown, kindOf, placed, boundariesAt, bodyChecks, kindChecks, asked, What, ended, begin, counted, found, Moved, moved, recordOf, tailChecks, pastEnd, readRecord}
 use Rattle.job.specs.Load.{Sane, Onward}
 use Rattle.job.specs.declared.State.{State}
 use Rattle.job.proofs.Laws.{placed-passed}
@@ -73,7 +73,7 @@ module _ (s : List ℕ) (st : State) (at : ℕ) where
         go (some r) e = record { by = tt }
 
   past-says : st .ended ≡ true → Says s st at (pastEnd s st at)
-  unfolding pastEnd
+  unfolding pastEnd tailChecks
   past-says e = go (ltb at (length s))
     where
       go : (b : Bool) → Says s st at (moved st at (toldBy (cond b (some (record { number = 16; place = at })) none) (record { what = ended (st .columns); next = at; state = st })))

@@ -11,8 +11,8 @@ use Rattle.paper.specs.Sheets.{entries}
 use Rattle.plate.specs.Refusal.{Told}
 use Rattle.plate.specs.declared.refusal.Reason.{Reason}
 use Rattle.plate.specs.declared.refusal.Reason.the-variants as reason
-use Rattle.job.specs.Record.{toldRead, toldStep}
-use Rattle.job.specs.File.{Job, sizeChecks, tailChecks, behind, jobBy, jobOver}
+use Rattle.job.specs.Record.{toldRead, toldStep, tailChecks}
+use Rattle.job.specs.File.{Job, sizeChecks, behind, jobBy, jobOver}
 use Rattle.job.specs.Load.{Onward, columnIn, Heeded}
 use Rattle.job.specs.declared.Asked.{Asked}
 use Rattle.job.specs.declared.State.{State}

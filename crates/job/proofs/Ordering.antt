@@ -17,9 +17,9 @@ use Rattle.plate.specs.Refusal.{Told, done, refused, Numbered}
 use Rattle.plate.specs.Settings.{settingsChecks}
 use Rattle.column.specs.Order.{columnChecks}
 use Rattle.job.specs.Bytes.{le16, le32, words}
-use Rattle.job.specs.Record.{What, settings, column, ended, remark, asked, begin, counted, Moved, readRecord, startState}
+use Rattle.job.specs.Record.{What, settings, column, ended, remark, asked, begin, counted, Moved, readRecord, startState, tailChecks}
 use Rattle.job.specs.Fold.{foldFrom, foldOf}
-use Rattle.job.specs.File.{Job, sizeChecks, tailChecks, unless, behind, jobBy, jobOver, jobOf}
+use Rattle.job.specs.File.{Job, sizeChecks, unless, behind, jobBy, jobOver, jobOf}
 use Rattle.job.specs.Load.{InOrder, Ordered}
 use Rattle.job.specs.declared.Asked.{Asked}
 use Rattle.job.specs.declared.State.{State}

@@ -6,13 +6,12 @@ use mathlib.Core.Bool.{_||_}
 use mathlib.Core.List.{List, [], _∷_, _++_}
 use mathlib.Core.Option.{Option, none, some}
 use lib.Dec.{ltb}
-use lib.ListN.{length}
 use Rattle.lists.specs.Checks.{Check, first}
 use Rattle.paper.specs.Table.{cells}
 use Rattle.paper.specs.Sheets.{entries}
 use Rattle.plate.specs.Refusal.{Told, done, refused, Numbered, check}
 use Rattle.job.specs.Bytes.{words}
-use Rattle.job.specs.Record.{What, settings, column, ended, remark}
+use Rattle.job.specs.Record.{What, settings, column, ended, remark, tailChecks}
 use Rattle.job.specs.Fold.{Over, foldOf}
 use Rattle.job.specs.declared.Asked.{Asked}
 
@@ -24,10 +23,6 @@ pub record Job : Type 0 where
 -- 17: a table or a sheet of these settings has more entries than there is room for
 unfoldable pub sizeChecks : ℕ → ℕ → Asked → List (Check Numbered)
 sizeChecks most at a = check 17 (ltb most (cells (a .height) (a .«set»)) || ltb most (entries (a .height) (a .«set»))) at ∷ []
-
--- 16: bytes after the end record, at the first of them
-unfoldable pub tailChecks : List ℕ → ℕ → List (Check Numbered)
-tailChecks s at = check 16 (ltb at (length s)) at ∷ []
 
 -- what is told where these checks were asked before
 abbrev pub unless : {X : Type 0} → Option Numbered → Told X → Told X

@@ -129,9 +129,13 @@ moved st at (refused number place) = record { told = refused number place; next 
 unfoldable pub recordOf : List ℕ → State → ℕ → Kind → Moved
 recordOf s st at kind = moved st at (decided (kindChecks s st at kind) (found s st at kind))
 
+-- 16: bytes after the end record, at the first of them
+unfoldable pub tailChecks : List ℕ → ℕ → List (Check Numbered)
+tailChecks s at = check 16 (ltb at (length s)) at ∷ []
+
 -- after the end record: the end again where nothing is left, else a fault at the first byte left
 unfoldable pub pastEnd : List ℕ → State → ℕ → Moved
-pastEnd s st at = moved st at (decided (check 16 (ltb at (length s)) at ∷ []) (record { what = ended (st .columns); next = at; state = st }))
+pastEnd s st at = moved st at (decided (tailChecks s at) (record { what = ended (st .columns); next = at; state = st }))
 
 -- fewer than 4 bytes left; a place past the input counts as nothing left
 unfoldable pub readRecord : List ℕ → State → ℕ → Moved

@@ -346,6 +346,7 @@ pub struct Load {
     pub tally: Tally,
 }
 
+// What reading a file into a table answers.
 pub enum Loaded {
     Done(Load),
     Refused(Refusal),
@@ -377,7 +378,7 @@ fn heed_refused(reason: Reason, place: usize) -> Heed
     })
 }
 
-// The record at `at` was read; the file has `length` bytes.
+// What the record at `at`, which was read, means for its file.
 fn judge(step: Step, at: usize, input: &[u8], most: usize) -> Heed
     requires { ⌜ Sane (toldStep step .told) ⌝ }
     ensures { λ r. ⌜ Heeded r most (now (input .entry)) at (toldStep step) ⌝ }

@@ -20,9 +20,9 @@ use Rattle.plate.proofs.Decided.{after-done}
 use Rattle.table.specs.Calls.{short}
 use Rattle.table.specs.Plates.{tableOf}
 use Rattle.table.proofs.Plates.{length-table, table-past, table-is}
-use Rattle.job.specs.Record.{settings, column, remark, What, ended, Moved, readRecord, startState}
+use Rattle.job.specs.Record.{settings, column, remark, What, ended, Moved, readRecord, startState, tailChecks}
 use Rattle.job.specs.Fold.{foldFrom}
-use Rattle.job.specs.File.{Job, sizeChecks, tailChecks, unless, behind, jobBy, jobOver, jobOf}
+use Rattle.job.specs.File.{Job, sizeChecks, unless, behind, jobBy, jobOver, jobOf}
 use Rattle.job.specs.Load.{Onward, columnIn, loadOf, loadAnswer, loadTable, InOrder}
 use Rattle.job.specs.declared.State.{State}
 use Rattle.job.specs.declared.Heed.the-variants as heed

@@ -13,7 +13,7 @@ use Rattle.plate.specs.Settings.{settingsChecks}
 use Rattle.plate.proofs.Decided.{refused-first}
 use Rattle.column.specs.Order.{columnChecks}
 use Rattle.job.specs.Bytes.{le16, le32}
-use Rattle.job.specs.Record.{Kind, settings, column, ending, remark, unknown, kindOf, placed, boundariesAt, bodyChecks, kindChecks, readRecord}
+use Rattle.job.specs.Record.{Kind, settings, column, ending, remark, unknown, kindOf, placed, boundariesAt, bodyChecks, kindChecks, readRecord, tailChecks}
 use Rattle.job.specs.declared.State.{State}
 use Rattle.promises.specs.Refusals.{recordChecks}
 use Rattle.promises.proofs.Refusals.{foundAt, record-told}
@@ -45,7 +45,7 @@ module _ (s : List ℕ) (st : State) (at : ℕ) where
   kind-at unknown = (refl, (refl, (refl, tt)))
 
   record-at : At at (recordChecks s st at)
-  unfolding recordChecks
+  unfolding recordChecks tailChecks
   record-at = go (st .ended) (kindOf (le16 s (at + 2)))
     where
       go : (b : Bool) (kind : Kind) → At at (cond b (check 16 (ltb at (length s)) at ∷ []) (check 16 (ltb (length s - at) 4) at ∷ kindChecks s st at kind))

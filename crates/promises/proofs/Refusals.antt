@@ -16,7 +16,7 @@ use Rattle.column.specs.Picture.{pictureChecks, pictureAnswer}
 use Rattle.motor.specs.Height.{heightChecks}
 use Rattle.table.specs.Calls.{short, tableChecks, clearAnswer, addRest, addAnswer, pairChecks, joinRest, joinAnswer, takeRest, takeAnswer}
 use Rattle.job.specs.Bytes.{le16}
-use Rattle.job.specs.Record.{Kind, kindOf, kindChecks, ended, Found, Moved, found, moved, recordOf, pastEnd, readRecord}
+use Rattle.job.specs.Record.{Kind, kindOf, kindChecks, ended, Found, Moved, found, moved, recordOf, pastEnd, readRecord, tailChecks}
 use Rattle.job.specs.Load.{loadAnswer}
 use Rattle.job.specs.declared.State.{State}
 use Rattle.plan.specs.Plan.{planRest, planAnswer}
@@ -47,7 +47,7 @@ one-list st at cs ds f g false false = refl
 pub record-is : (s : List ℕ) (st : State) (at : ℕ) → readRecord s st at ≡ moved st at (decided (recordChecks s st at) (foundAt s st at))
 unfolding readRecord recordOf pastEnd recordChecks
 record-is s st at =
-    one-list st at (check 16 (ltb at (length s)) at ∷ []) (kindChecks s st at (kindAt s at)) (again st at) (found s st at (kindAt s at)) (st .ended) (ltb (length s - at) 4)
+    one-list st at (tailChecks s at) (kindChecks s st at (kindAt s at)) (again st at) (found s st at (kindAt s at)) (st .ended) (ltb (length s - at) 4)
 
 moved-told : (st : State) (at : ℕ) (o : Option Numbered) (f : Found) → moved st at (toldBy o f) .told ≡ toldBy o (f .what)
 moved-told st at none f = refl

@@ -10,8 +10,8 @@ use Rattle.paper.specs.Layer as paper
 use Rattle.paper.specs.Layer.{ofColumns}
 use Rattle.paper.specs.Table.{cells, Table, mostColumns}
 use Rattle.plate.specs.Refusal.{Told, done, refused}
-use Rattle.job.specs.Record.{What, settings, column, ended, remark, Moved, readRecord, startState}
-use Rattle.job.specs.File.{Job, sizeChecks, tailChecks, jobOf}
+use Rattle.job.specs.Record.{What, settings, column, ended, remark, Moved, readRecord, startState, tailChecks}
+use Rattle.job.specs.File.{Job, sizeChecks, jobOf}
 use Rattle.job.specs.Load.{columnIn, loadOf, loadAnswer, loadTable}
 use Rattle.job.specs.declared.State.{State}
 use Rattle.promises.specs.Runs.{Columns}

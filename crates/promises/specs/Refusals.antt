@@ -15,7 +15,7 @@ use Rattle.column.specs.Picture.{pictureChecks, pictureAnswer}
 use Rattle.motor.specs.Height.{heightChecks, heightAnswer}
 use Rattle.table.specs.Calls.{short, tableChecks, clearAnswer, addRest, addAnswer, pairChecks, joinRest, joinAnswer, takeRest, takeAnswer}
 use Rattle.job.specs.Bytes.{le16}
-use Rattle.job.specs.Record.{kindOf, kindChecks, readRecord}
+use Rattle.job.specs.Record.{kindOf, kindChecks, tailChecks, readRecord}
 use Rattle.job.specs.File.{Job}
 use Rattle.job.specs.Load.{loadAnswer}
 use Rattle.job.specs.declared.State.{State}
@@ -31,7 +31,7 @@ Exactly answer checks = (number place : ℕ) → (answer ≡ refused number plac
 -- kind asks
 unfoldable pub recordChecks : List ℕ → State → ℕ → List (Check Numbered)
 recordChecks s st at =
-    cond (st .ended) (check 16 (ltb at (length s)) at ∷ [])
+    cond (st .ended) (tailChecks s at)
     (check 16 (ltb (length s - at) 4) at ∷ kindChecks s st at (kindOf (le16 s (at + 2))))
 
 pub record Refusals : Type 0 where

@@ -1,6 +1,6 @@
 -- How long the text of a job is at most. A job whose sheets fit has at most 63 counts, a line of a count has at most 64 boundaries, and a
 -- number at most 20 digits. Assumes nothing.
-use mathlib.Core.Path.{_≡_, refl, sym, ap, _∙_}
+use mathlib.Core.Path.{_≡_, refl}
 use mathlib.Core.Bool.{Bool, true, false, cond}
 use mathlib.Core.List.{List, [], _∷_, _++_}
 use mathlib.Core.Option.{Option, none, some}

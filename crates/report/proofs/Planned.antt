@@ -5,7 +5,6 @@ use Prim.Native.Nat.{ℕ, _≤_}
 use native.Mathlib.Omega.{arith}
 use borrow.Author.Tests.{ltb-false}
 use lib.ListN.{length}
-use Rattle.lists.specs.Checks.{first}
 use Rattle.lists.proofs.Checks.{first-none, first-later}
 use Rattle.paper.specs.Sequence.{M}
 use Rattle.plate.specs.Refusal.{Told, told, numberOf}

@@ -1,17 +1,16 @@
 -- The text as it is worked out is document 01's: a file that is not refused is a plate's table; the table is planned, since its sheets fit;
 -- and each count's line is that of the sequence found, or `none`, by demand 2. Assumes nothing.
-use mathlib.Core.Path.{_≡_, refl, sym, ap, ap₂, subst, _∙_}
+use mathlib.Core.Path.{_≡_, refl, sym, ap, ap₂, _∙_}
 use mathlib.Core.Logic.{inl, inr}
 use mathlib.Core.Bool.{Bool, true, false}
-use mathlib.Core.List.{List, [], _∷_, _++_}
-use mathlib.Core.Option.{Option, none, some}
-use Prim.Native.Nat.{ℕ, zero, suc, _+_, _*_, _≤_, _<_}
+use mathlib.Core.List.{List, _++_}
+use Prim.Native.Nat.{ℕ, zero, suc, _+_, _≤_, _<_}
 use native.Mathlib.Nat.{mul-le-mul, div-le-self}
 use native.Mathlib.Omega.{arith}
 use borrow.Author.Tests.{ltb-true, ltb-false}
 use lib.Dec.{ltb}
 use lib.IntN.{ℤ, pos}
-use lib.ListN.{length, getD, take, drop, replicate, length-replicate}
+use lib.ListN.{length, getD, take, length-replicate}
 use Rattle.paper.specs.Layer as paper
 use Rattle.paper.specs.Layer.{Plate, tmin, ofColumns}
 use Rattle.paper.specs.Table.{rows, InBounds}
@@ -24,17 +23,15 @@ use Rattle.table.specs.Tabled.{tallyOf}
 use Rattle.job.specs.File.{Job, jobOf}
 use Rattle.job.specs.Load.{loadOf, loadAnswer, loadTable}
 use Rattle.job.proofs.Ordering.{ordered}
-use Rattle.plan.specs.Plan.{Sheets, planAnswer, planSheets}
-use Rattle.plan.specs.Reading.{readAnswer, readOut}
+use Rattle.plan.specs.Plan.{Sheets, planSheets}
 use Rattle.meaning.specs.Working.{found}
 use Rattle.meaning.proofs.Choice.{length-count, found-exact, found-none}
-use Rattle.promises.specs.Runs.{Held}
 use Rattle.promises.specs.Plans.{Answers}
 use Rattle.promises.specs.Files.{FileRead}
 use Rattle.promises.proofs.Tables.{tabulated-bounds}
 use Rattle.promises.proofs.Demands.{Room, plan-done, demand-2, answers-columns, take-front}
 use Rattle.promises.proofs.Files.{file-tabulated}
-use Rattle.report.specs.Lines.{most, noneLine, sequenceLine, countLine, countLines, headLine, jobText, plateText}
+use Rattle.report.specs.Lines.{most, sequenceLine, countLine, countLines, headLine, jobText, plateText}
 use Rattle.report.specs.Work.{blankTable, blankSheets, blankSequence, readLine, sheetLine, sheetsText, plannedBy, plannedText, loadedBy, fileText}
 
 -- ---- lines that are the same

@@ -4,7 +4,7 @@ use mathlib.Core.List.{List}
 use Prim.Native.Nat.{ℕ, _+_}
 use lib.IntN.{ℤ}
 use lib.ListN.{length, take}
-use Rattle.plate.specs.Refusal.{Told, told}
+use Rattle.plate.specs.Refusal.{told}
 use Rattle.plate.specs.declared.refusal.Answer.{Answer}
 use Rattle.plate.specs.declared.refusal.Answer.the-variants.{Done, Refused}
 use Rattle.plate.specs.declared.refusal.Refusal.{Refusal}

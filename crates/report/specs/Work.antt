@@ -5,13 +5,12 @@ use mathlib.Core.List.{List, _++_}
 use lib.IntN.{ℤ, pos}
 use lib.ListN.{length, take, replicate}
 use Rattle.plate.specs.Refusal.{Told, done, refused}
-use Rattle.table.specs.declared.Tally.{Tally}
 use Rattle.job.specs.File.{Job}
 use Rattle.job.specs.Load.{loadAnswer, loadTable}
 use Rattle.job.specs.declared.Load.{Load}
 use Rattle.plan.specs.Plan.{Sheets, sheetsOf, planAnswer, planSheets}
 use Rattle.plan.specs.Reading.{readAnswer, readOut}
-use Rattle.report.specs.Lines.{most, refusedLine, headLine, noneLine, sequenceLine, countLines}
+use Rattle.report.specs.Lines.{refusedLine, headLine, noneLine, sequenceLine, countLines}
 
 -- the buffers of the program: a table, two sheets, a list and a sequence
 abbrev pub blankTable : List ℕ

@@ -1,6 +1,6 @@
 // What the planning program prints for a job file, laid into a lent buffer as far as the buffer goes.
 ghost use mathlib.Core.Path.{_≡_};
-ghost use Prim.Native.Nat.{_+_, _-_, _≤_, _<_, min};
+ghost use Prim.Native.Nat.{_+_, _≤_, _<_, min};
 ghost use lib.ListN.{length, take};
 ghost use Rattle.paper.specs.Sequence.{_!_};
 ghost use Rattle.plate.specs.Refusal.{numberOf};

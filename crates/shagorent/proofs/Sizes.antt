@@ -2,7 +2,7 @@
 use mathlib.Core.Path.{_≡_, sym, ap, subst, _∙_}
 use mathlib.Core.Option.{Option}
 use Prim.Native.Nat.{ℕ}
-use Rattle.plate.specs.Refusal.{Told, done, refused, numberOf, Numbered, toldBy, decided}
+use Rattle.plate.specs.Refusal.{done, refused, numberOf, Numbered, toldBy, decided}
 use Rattle.plate.specs.Settings.{settingsChecks, settingsOf, toldMade, Passed}
 use Rattle.plate.specs.declared.refusal.Reason.{Reason}
 use Rattle.plate.specs.declared.settings.Made.{Made}

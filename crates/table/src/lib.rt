@@ -9,7 +9,7 @@ ghost use Rattle.lists.specs.Rewrite.{Span};
 ghost use Rattle.paper.specs.Table.{limit};
 ghost use Rattle.plate.specs.Checked.{saidBy};
 ghost use Rattle.plate.specs.Refusal.{decided, after};
-ghost use Rattle.plate.specs.Settings.{Sound, Passed};
+ghost use Rattle.plate.specs.Settings.{Sound};
 ghost use Rattle.table.specs.Cells.{firstOut, addend, firstOverfull, firstNotPart};
 ghost use Rattle.table.specs.Tabled.{toldTable, tallyOf};
 ghost use Rattle.table.specs.Limits.{Limits, above, heaped, apart};

@@ -1,3 +1,4 @@
+-- `quad` meets its contract: four bytes are two times two. Assumes nothing.
 use borrow.Author.Needs.{needs}
 use Rattle.job.specs.Bytes.{le32}
 use Rattle.job.proofs.quad.Statement.{statement}

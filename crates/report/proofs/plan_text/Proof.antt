@@ -11,7 +11,7 @@ use denote.Ref.{now}
 use Rattle.text.specs.Sink.{Sink, sink, put, laidOver}
 use Rattle.text.proofs.Laws.{put-start, laid-whole}
 use Rattle.job.specs.File.{jobOf}
-use Rattle.report.specs.Lines.{most, refusedLine, jobText, planText}
+use Rattle.report.specs.Lines.{most, refusedLine, planText}
 use Rattle.report.specs.Work.{blankTable, fileText}
 use Rattle.report.proofs.Printed.{printed}
 use Rattle.report.proofs.Lengths.{text-fits}

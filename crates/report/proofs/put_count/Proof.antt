@@ -1,6 +1,5 @@
 -- `put_count` meets its contract: it lends a sequence of its own. Assumes nothing.
 use borrow.Author.Needs.{needs}
-use mathlib.Core.Path.{refl}
 use Rattle.report.proofs.put_count.Statement.{statement}
 use Rattle.report.proofs.put_count.Tie as tie
 

@@ -5,16 +5,16 @@ use native.Mathlib.Omega.{arith}
 use Prim.Native.Nat.{_-_}
 use lib.ListN.{length}
 use denote.Ref.{now}
-use Rattle.job.specs.Record.{pastEnd, readRecord}
+use Rattle.job.specs.Record.{tailChecks, pastEnd, readRecord}
 use Rattle.job.proofs.Cursor.read.Statement.{statement}
 use Rattle.job.proofs.Cursor.read.Tie as tie
 
 returns : tie.Need-returns
-unfolding readRecord pastEnd
+unfolding readRecord pastEnd tailChecks
 returns c = simp (c .before .before .if1 .taken, lt-ltb _ _ (c .before .if2 .taken)) (c .faulted .ensures)
 
 returns-2 : tie.Need-returns-2
-unfolding readRecord pastEnd
+unfolding readRecord pastEnd tailChecks
 returns-2 c = simp (c .before .if1 .taken, le-ltb _ _ (c .if2 .left))
 
 returns-3 : tie.Need-returns-3
