@@ -3,6 +3,7 @@
 -- `rewritten` (`span-is`). The laws speak of places alone, so that no list is ever taken apart. Assumes nothing.
 use mathlib.Core.Path.{_≡_, refl, sym, ap, _∙_, subst}
 use mathlib.Core.List.{List}
+use mathlib.Core.Logic.{_⊎_, inl, inr}
 use Prim.Native.Nat.{ℕ, _+_, _-_, _*_, _≤_, _<_}
 use native.Mathlib.Omega.{arith}
 use native.Mathlib.Decide.{decLt, ℕ-discrete}
@@ -113,6 +114,26 @@ module _ {A : Type 0} {d : A} where
       go : (m : ℕ) → m < k → Dec (m < n) → getD new (a + m) d ≡ g m (getD old (a + m) d)
       go m h (yes u) = s .inside m u
       go m h (no u) = sym (e m (omega arith) h) ∙ ap (g m) (s .above (a + m) (omega arith))
+
+  -- a span within a wider one, where the wider one's rule leaves all else as it is
+  pub span-within : {a b n : ℕ} {g : ℕ → A → A} {old new : List A} (k : ℕ) (f : ℕ → A → A) → Span d b n g old new → a ≤ b → b + n ≤ a + k
+      → ((m : ℕ) → m < k → (a + m < b) ⊎ (b + n ≤ a + m) → f m (getD old (a + m) d) ≡ getD old (a + m) d)
+      → ((m : ℕ) → m < n → f (b - a + m) (getD old (b + m) d) ≡ g m (getD old (b + m) d)) → Span d a k f old new
+  span-within {a} {b} {n} {g} {old} {new} k f s l u out inside = record {
+    long = s .long;
+    inside = λ m h. go m h (decLt (a + m) b) (decLt (a + m) (b + n));
+    below = λ i h. s .below i (omega arith);
+    above = λ i h. s .above i (omega arith);
+  }
+    where
+      go : (m : ℕ) → m < k → Dec (a + m < b) → Dec (a + m < b + n) → getD new (a + m) d ≡ f m (getD old (a + m) d)
+      go m h (yes x) y = s .below (a + m) x ∙ sym (out m h (inl x))
+      go m h (no x) (no y) = s .above (a + m) (omega arith) ∙ sym (out m h (inr (omega arith)))
+      go m h (no x) (yes y) =
+          let p : b + (a + m - b) ≡ a + m = omega arith in
+          let q : b - a + (a + m - b) ≡ m = omega arith in
+          let e = s .inside (a + m - b) (omega arith) ∙ sym (inside (a + m - b) (omega arith)) in
+          subst (λ (i : ℕ). getD new i d ≡ f m (getD old i d)) p (e ∙ ap (λ (i : ℕ). f i (getD old (b + (a + m - b)) d)) q)
 
   -- a span rewritten, and then again
   pub span-again : {a n : ℕ} {f g : ℕ → A → A} {old mid new : List A}

@@ -4,6 +4,7 @@ pub mod Walks
 pub mod Answers
 pub mod Sums
 pub mod Rows
+pub mod Putting
 pub mod Relaxing
 pub mod Listing
 pub mod Planning

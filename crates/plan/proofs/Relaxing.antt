@@ -1,20 +1,19 @@
--- The innermost loop of planning. `Relaxing` has what holds where the loop begins, and the loop keeps: the entries of the counts up to m are
--- those by last layers of at most t, and the others still those of at most t - 1. A turn takes the better of two (`relaxed-less`,
--- `relaxed-keep`). It runs over the counts that the row where the layer starts can have: with fewer the layers under it would have to be
--- thicker than tmax (`few`), with more thinner than tmin (`many`), so there is no sequence and the entry stays as it is
--- (`relaxed-begin`, `relaxed-end`). Assumes nothing.
-use Prim.Native.Nat.{ℕ, _+_, _-_, _*_, _/_, _≤_, _<_}
+-- One thickness more in a row: a last layer is put on the sequences of the row where it starts, for the counts from `first` up to `end`. Each
+-- entry becomes the better of two (`errors-inside`, `thicknesses-inside`). With fewer layers those under it would have to be thicker than
+-- tmax (`few`), with more thinner than tmin (`many`), so there is no sequence and the entry stays as it is (`out`). Assumes nothing.
+use Prim.Native.Nat.{ℕ, _+_, _-_, _*_, _≤_, _<_}
 use mathlib.Core.Path.{_≡_, refl, sym, ap, _∙_}
 use mathlib.Core.List.{List}
 use mathlib.Core.Logic.{_⊎_, inl, inr, ⊎-elim}
 use mathlib.Core.Option.{Option, none, some}
-use native.Mathlib.Nat.{le-div-iff-mul-le, div-mul-le-self, mul-le-mul-left}
+use native.Mathlib.Nat.{le-div-iff-mul-le, mul-le-mul-left, mul-le-mul-right}
+use native.Mathlib.Decide.{decLt}
 use native.Mathlib.Omega.{arith}
-use lib.Arith.{digits-lt}
-use lib.ListN.{length, getD, set}
+use lib.ListN.{length, getD}
 use Rattle.lists.specs.Best.{Best, value, place}
-use Rattle.lists.proofs.Spans.{span-none, span-set, span-keep, span-rest}
+use Rattle.lists.proofs.Spans.{span-within}
 use Rattle.paper.specs.Sheets.{missing}
+use Rattle.plate.specs.Settings.{Sound}
 use Rattle.plate.specs.declared.settings.Settings.{Settings}
 use Rattle.sequence.specs.Sequence.{Rules}
 use Rattle.sequence.specs.Least.{plus, via, least}
@@ -23,34 +22,45 @@ use Rattle.sequence.proofs.Bounds.{least-few, least-many}
 use Rattle.sequence.proofs.Marks.{Small, unmark-mark}
 use Rattle.table.specs.Cells.{cellFrom}
 use Rattle.plan.specs.Planning.{Ready, planRules, bestTo}
+use Rattle.plan.specs.Putting.{sumAt, errorOf, thicknessOf, PutOn, Room}
 use Rattle.plan.specs.Rows.{rulesOf, errorTo, thicknessTo, RowTo, Under, Usable}
 use Rattle.plan.proofs.Places.{row-in}
+use Rattle.plan.proofs.Putting.{error-less, error-keep, thickness-less, thickness-keep}
 use Rattle.plan.proofs.Sums.{layer-thick, least-small, sum-most, via-small}
 use Rattle.plan.proofs.Rows.{kept, taken, left, via-permitted}
 
--- the loop's locals, and the sheets E and F as it finds them, are those of the settings s
-pub record Relaxing (table : List ℕ) (bound q t : ℕ) (E F : List ℕ) (from to cell end first : ℕ) (s : Settings) : Type 0 where
+-- a count that no layers of at most tmax are too few for is one of the counts
+pub first-few : (s : Settings) → Sound s → (q first : ℕ) → q ≤ s .rows → first * s .tmax ≤ q - s .tmax → first ≤ s .counts
+first-few s k q first l u =
+    rw (k .counts-are) (le-div-iff-mul-le {k = s .tmin} (k .thin) .1 (omega (arith, mul-le-mul-left first (k .order))))
+
+-- what `relax` has found when it puts the layer on
+pub record Relaxing (table : List ℕ) (bound q t : ℕ) (E F : List ℕ) (first end cell : ℕ) (s : Settings) : Type 0 where
   pub ready : Ready s table
   pub under : Under s (rulesOf s bound table) q E F
   pub usable : Usable s (rulesOf s bound table) q t
   pub row : RowTo s (rulesOf s bound table) q (t - 1) (s .counts + 1) E F E F
-  pub from-is : from ≡ (q - t) * (s .counts + 1)
-  pub to-is : to ≡ q * (s .counts + 1) + 1
-  pub cell-is : cell ≡ cellFrom (s .«set») table (q - t + 33 - s .tmax) t
-  pub first-is : first ≡ (q - t) / s .tmax
+  pub first-low : first * s .tmax ≤ q - s .tmax
   pub end-few : end ≤ s .counts
   pub end-past : (m : ℕ) → end ≤ m → m < s .counts → q - t < m * s .tmin
+  pub cell-is : cell ≡ cellFrom (s .«set») table (q - t + 33 - s .tmax) t
 
-module _ {table : List ℕ} {bound q t : ℕ} {E F : List ℕ} {from to cell end first : ℕ} {s : Settings} (r : Relaxing table bound q t E F from to cell end first s) where
+module _ {table : List ℕ} {bound q t : ℕ} {E F : List ℕ} {first end cell : ℕ} {s : Settings} (r : Relaxing table bound q t E F first end cell s) where
   abbrev p : Rules
   p = rulesOf s bound table
 
-  -- the heights of the row and of the row where the layer starts
+  -- the heights of the row and of the row where the layer starts, and where the entries of the first count stand
   abbrev high : ℕ
   high = q + 33 - s .tmax
 
   abbrev low : ℕ
   low = q - t + 33 - s .tmax
+
+  abbrev from : ℕ
+  from = (q - t) * (s .counts + 1) + first
+
+  abbrev to : ℕ
+  to = q * (s .counts + 1) + (first + 1)
 
   high-in : high < s .height + 32 + s .tmax
   high-in = omega (arith, r .under .row, r .ready .sound .rows-are, r .ready .sound .low, r .ready .sound .thin, r .ready .sound .order, r .ready .sound .thick)
@@ -58,20 +68,25 @@ module _ {table : List ℕ} {bound q t : ℕ} {E F : List ℕ} {from to cell end
   low-in : low < s .height + 32 + s .tmax
   low-in = omega (arith, high-in)
 
-  -- the counts that the start row cannot have
-  first-few : first ≤ s .counts
-  first-few =
-      let d = div-mul-le-self (q - t) (s .tmax) in
-      let k = r .ready .sound in
-      rw (k .counts-are, r .first-is)
-      (le-div-iff-mul-le {k = s .tmin} (k .thin) .1 (omega (arith, mul-le-mul-left ((q - t) / s .tmax) (k .order), r .under .row)))
+  first-under : first * s .tmin ≤ q - t
+  first-under = omega (arith, mul-le-mul-left first (r .ready .sound .order), r .first-low, r .usable .thin)
 
+  pub first-end : first ≤ end
+  first-end = go (decLt end first)
+    where
+      go : Dec (end < first) → first ≤ end
+      go (yes l) =
+          let u : end * s .tmin ≤ first * s .tmin = mul-le-mul-right (s .tmin) (omega arith) in
+          absurd (omega (arith, r .end-past end (omega arith) (omega (arith, first-few s (r .ready .sound) q first (r .under .row) (r .first-low))), first-under))
+      go (no l) = omega arith
+
+  -- the counts that the start row cannot have
   few : (m : ℕ) → m < first → least p m low ≡ none
   unfolding planRules
   few m l =
       let k = r .ready .sound in
-      let d : (m + 1) * s .tmax ≤ q - t = le-div-iff-mul-le {k = s .tmax} (omega (arith, k .thin, k .order)) .0 (omega (arith, r .first-is)) in
-      least-few p m low (rw (← k .greatest) (omega (arith, k .thick)))
+      let d : (m + 1) * s .tmax ≤ first * s .tmax = mul-le-mul-right (s .tmax) (omega arith) in
+      least-few p m low (rw (← k .greatest) (omega (arith, k .thick, r .first-low, r .usable .thin)))
 
   many : (m : ℕ) → end ≤ m → m < s .counts → least p m low ≡ none
   unfolding planRules
@@ -98,88 +113,77 @@ module _ {table : List ℕ} {bound q t : ℕ} {E F : List ℕ} {from to cell end
   unfolding thicknessTo
   thicknesses-right i l e = ap place e ∙ sym (r .row .thicknesses-are .inside i l)
 
-  -- before the first turn
-  pub relaxed-begin : (first ≤ s .counts) × RowTo s p q t (first + 1) E F E F
-  relaxed-begin = (
-    first-few,
-    record {
-      errors-are = span-rest (first + 1) (span-none _ _ E) (omega arith) (λ i a b. errors-right i (omega (arith, first-few)) (same i b));
-      thicknesses-are = span-rest (first + 1) (span-none _ _ F) (omega arith) (λ i a b. thicknesses-right i (omega (arith, first-few)) (same i b));
-    },
-  )
-    where
-      same : (i : ℕ) → i < first + 1 → bestTo p i high t ≡ bestTo p i high (t - 1)
-      same i b = out i (omega (arith, first-few)) (λ m e. inl (omega arith))
+  -- what is read in the start row is none or far below the mark
+  module _ (m : ℕ) (l : m < end - first) where
+    read : getD E (from + m) 0 ≡ mark (least p (first + m) low)
+    read =
+        let e : from + m ≡ (q - t) * (s .counts + 1) + (first + m) = omega arith in
+        ap (λ (i : ℕ). getD E i 0) e ∙ r .under .filled (q - t) (first + m) (omega (arith, r .usable .thick, r .usable .above)) (omega (arith, r .end-few))
 
-  -- where a turn reads and writes
-  pub from-in : (m : ℕ) → m < end → from + m < s .entries
-  from-in m l =
-      rw (r .from-is) (row-in s (r .ready .sound) (q - t) m (omega (arith, r .under .row)) (omega (arith, r .end-few)))
-
-  pub to-in : (m : ℕ) → m < end → to + m < s .entries
-  to-in m l =
-      omega (arith, r .to-is, row-in s (r .ready .sound) q (m + 1) (r .under .row) (omega (arith, r .end-few)))
-
-  module _ {m : ℕ} {G H : List ℕ} (now : RowTo s p q t (m + 1) E F G H) where
-    -- past the last turn
-    pub relaxed-end : end ≤ m → m ≤ s .counts → RowTo s p q t (s .counts + 1) E F G H
-    relaxed-end l u = record {
-      errors-are = span-rest (s .counts + 1) (now .errors-are) (omega arith) (λ i a b. errors-right i b (same i a b) ∙ sym (now .errors-are .above _ (omega arith)));
-      thicknesses-are =
-          span-rest (s .counts + 1) (now .thicknesses-are) (omega arith) (λ i a b. thicknesses-right i b (same i a b) ∙ sym (now .thicknesses-are .above _ (omega arith)));
-    }
+    read-few : (getD E (from + m) 0 ≡ missing → ⊥) → getD E (from + m) 0 ≤ 9_184_000_000
+    read-few n = rw read (go (least p (first + m) low) refl (λ e. n (read ∙ e)))
       where
-        same : (i : ℕ) → m + 1 ≤ i → i < s .counts + 1 → bestTo p i high t ≡ bestTo p i high (t - 1)
-        same i a b = out i b (λ k e. inr (omega arith))
+        go : (o : Option ℕ) → least p (first + m) low ≡ o → (mark o ≡ missing → ⊥) → mark o ≤ 9_184_000_000
+        go none e k = absurd (k refl)
+        go (some x) e k = omega (arith, sum-most s bound table (r .ready) (first + m) low x low-in e, r .end-few, r .ready .sound .few-counts)
 
-    module _ (l : m < end) where
-      -- what a turn reads in the start row is none or far below the mark
-      read : getD G (from + m) 0 ≡ mark (least p m low)
-      read =
-          let k = r .usable .thick in
-          let a = r .usable .above in
-          let i : from + m < q * (s .counts + 1) = rw (r .from-is) (digits-lt (omega arith) (omega (arith, r .end-few))) in
-          now .errors-are .below (from + m) i
-          ∙ ap (λ (j : ℕ). getD E (j + m) 0) (r .from-is)
-          ∙ r .under .filled (q - t) m (omega arith) (omega (arith, r .end-few))
+    sum-is : sumAt E cell (from + m) ≡ mark (via p (λ g. least p (first + m) g) high t)
+    unfolding sumAt
+    sum-is =
+        let e = unmark-mark (least p (first + m) low) (least-small s bound table (r .ready) (first + m) low (omega (arith, r .end-few)) low-in) in
+        ap (λ (x : ℕ). mark (plus cell (unmark x))) read ∙ ap (λ (o : Option ℕ). mark (plus cell o)) e ∙ ap mark (sym (via-is (first + m)))
 
-      pub read-few : (getD G (from + m) 0 ≡ missing → ⊥) → getD G (from + m) 0 ≤ 9_184_000_000
-      read-few n = rw read (go (least p m low) refl (λ e. n (read ∙ e)))
-        where
-          go : (o : Option ℕ) → least p m low ≡ o → (mark o ≡ missing → ⊥) → mark o ≤ 9_184_000_000
-          go none e k = absurd (k refl)
-          go (some x) e k = omega (arith, sum-most s bound table (r .ready) m low x low-in e, r .end-few, r .ready .sound .few-counts)
+    -- and in this row, the entry by last layers of less than t
+    old : getD E (to + m) 0 ≡ mark (value (bestTo p (first + m + 1) high (t - 1)))
+    unfolding errorTo
+    old =
+        let e : to + m ≡ q * (s .counts + 1) + (first + m + 1) = omega arith in
+        ap (λ (j : ℕ). getD E j 0) e ∙ r .row .errors-are .inside (first + m + 1) (omega (arith, r .end-few))
 
-      -- and in this row, the entry by last layers of less than t
-      old : getD G (to + m) 0 ≡ mark (value (bestTo p (m + 1) high (t - 1)))
-      unfolding errorTo
-      old =
-          let e : to + m ≡ q * (s .counts + 1) + (m + 1) = omega (arith, r .to-is) in
-          ap (λ (j : ℕ). getD G j 0) e ∙ now .errors-are .above _ (omega arith) ∙ r .row .errors-are .inside (m + 1) (omega (arith, r .end-few))
+    all-small : (u : ℕ) → Small (via p (λ g. least p (first + m) g) high u)
+    all-small u = via-small s bound table (r .ready) (first + m) high u (omega (arith, r .end-few)) high-in
 
-      module _ (c : ℕ) (sum : c ≡ mark (plus cell (unmark (getD G (from + m) 0)))) where
-        sum-is : c ≡ mark (via p (λ g. least p m g) high t)
-        sum-is =
-            let e = unmark-mark (least p m low) (least-small s bound table (r .ready) m low (omega (arith, r .end-few)) low-in) in
-            sum ∙ ap (λ (x : ℕ). mark (plus cell (unmark x))) read ∙ ap (λ (o : Option ℕ). mark (plus cell o)) e ∙ ap mark (sym (via-is m))
+    -- so each entry becomes the better of the two
+    inside : Dec (sumAt E cell (from + m) < getD E (to + m) 0)
+        → (errorTo s p q t (first + m + 1) ≡ errorOf (sumAt E cell (from + m)) (getD E (to + m) 0))
+        × (thicknessTo s p q t (first + m + 1) ≡ thicknessOf (sumAt E cell (from + m)) (getD E (to + m) 0) t (getD F (to + m) 0))
+    unfolding errorTo thicknessTo
+    inside (yes u) =
+        let v = taken p (first + m) high t _ (r .usable .thick) sum-is all-small (omega (arith, old)) in
+        (sym (v .0) ∙ sym (error-less _ _ u), sym (v .1) ∙ sym (thickness-less _ _ _ _ u))
+    inside (no u) =
+        let v = left p (first + m) high t _ (r .usable .thick) sum-is all-small (omega (arith, old)) in
+        let e : q * (s .counts + 1) + (first + m + 1) ≡ to + m = omega arith in (
+          errors-right (first + m + 1) (omega (arith, r .end-few)) v ∙ ap (λ (i : ℕ). getD E i 0) e ∙ sym (error-keep _ _ (omega arith)),
+          thicknesses-right (first + m + 1) (omega (arith, r .end-few)) v ∙ ap (λ (i : ℕ). getD F i 0) e ∙ sym (thickness-keep _ _ _ _ (omega arith)),
+        )
 
-        all-small : (u : ℕ) → Small (via p (λ g. least p m g) high u)
-        all-small u = via-small s bound table (r .ready) m high u (omega (arith, r .end-few)) high-in
+  -- the places of the counts
+  pub room : Room from to (end - first) E F
+  room =
+      let i = row-in s (r .ready .sound) q (s .counts) (r .under .row) (omega arith) in
+      let d : (q - t + 1) * (s .counts + 1) ≤ q * (s .counts + 1) = mul-le-mul-right (s .counts + 1) (omega (arith, r .usable .thick, r .usable .above)) in
+      record {
+        apart = omega (arith, r .end-few, first-end);
+        errors-long = omega (arith, r .end-few, first-end, r .under .errors-whole);
+        thicknesses-long = omega (arith, r .end-few, first-end, r .under .thicknesses-whole);
+        few = read-few;
+      }
 
-        pub relaxed-less : c < getD G (to + m) 0 → to + m < length G → to + m < length H → RowTo s p q t (m + 1 + 1) E F (set G (to + m) c) (set H (to + m) t)
-        unfolding errorTo thicknessTo
-        relaxed-less u a b =
-            let v = taken p m high t c (r .usable .thick) sum-is all-small (omega (arith, old)) in
-            record {
-              errors-are = span-set (now .errors-are) (to + m) c (omega (arith, r .to-is)) a (v .0);
-              thicknesses-are = span-set (now .thicknesses-are) (to + m) t (omega (arith, r .to-is)) b (v .1);
-            }
+  pub relaxed : {G H : List ℕ} → PutOn from to cell t (end - first) E F G H → RowTo s p q t (s .counts + 1) E F G H
+  relaxed o = record {
+    errors-are =
+        span-within (s .counts + 1) (λ m x. errorTo s p q t m) (o .errors-are) (omega arith) (omega (arith, r .end-few, first-end))
+        (λ m a b. errors-right m a (same m a b))
+        (λ m a. ap (errorTo s p q t) (index m) ∙ inside m a (decLt _ _) .0);
+    thicknesses-are =
+        span-within (s .counts + 1) (λ m x. thicknessTo s p q t m) (o .thicknesses-are) (omega arith) (omega (arith, r .end-few, first-end))
+        (λ m a b. thicknesses-right m a (same m a b))
+        (λ m a. ap (thicknessTo s p q t) (index m) ∙ inside m a (decLt _ _) .1);
+  }
+    where
+      index : (m : ℕ) → to - q * (s .counts + 1) + m ≡ first + m + 1
+      index m = omega arith
 
-        pub relaxed-keep : getD G (to + m) 0 ≤ c → RowTo s p q t (m + 1 + 1) E F G H
-        unfolding errorTo thicknessTo
-        relaxed-keep u =
-            let v = left p m high t c (r .usable .thick) sum-is all-small (omega (arith, old)) in
-            record {
-              errors-are = span-keep (now .errors-are) (errors-right (m + 1) (omega (arith, r .end-few)) v ∙ sym (now .errors-are .above _ (omega arith)));
-              thicknesses-are = span-keep (now .thicknesses-are) (thicknesses-right (m + 1) (omega (arith, r .end-few)) v ∙ sym (now .thicknesses-are .above _ (omega arith)));
-            }
+      same : (m : ℕ) → m < s .counts + 1 → (q * (s .counts + 1) + m < to) ⊎ (to + (end - first) ≤ q * (s .counts + 1) + m) → bestTo p m high t ≡ bestTo p m high (t - 1)
+      same m a b = out m a (λ k e. ⊎-elim (λ x. inl (omega arith)) (λ x. inr (omega (arith, first-end))) b)

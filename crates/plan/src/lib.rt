@@ -15,6 +15,7 @@ ghost use Rattle.sequence.specs.Least.{plus};
 ghost use Rattle.sequence.specs.Sheets.{mark, unmark, entry, endOf, faultUnder, boundariesUnder};
 ghost use Rattle.table.specs.Cells.{cellFrom};
 ghost use Rattle.plan.specs.Planning.{Ready, planRules, plannedErrors, plannedThicknesses, plannedList};
+ghost use Rattle.plan.specs.Putting.{Room, PutOn};
 ghost use Rattle.plan.specs.Rows.{rulesOf, RowTo, Under, Usable, Planned};
 ghost use Rattle.plan.specs.Reading.{entryChecks, roomChecks, readAnswer, readOut};
 ghost use Rattle.plan.specs.Walking.{faultOf, Within, Roomy, Answered};
@@ -211,12 +212,12 @@ fn may_use(table: &[u32], s: Settings, bound: u32, start: usize, t: usize) -> bo
     cell_at(table, s, start, t) <= bound
 }
 
-// An entry with a layer's error more, and none where there is none.
+// An entry with a layer's error more, and none where there is none: none and a layer's error would be beyond the greatest entry.
 fn sum_or_none(e: u64, cell: u32) -> u64
     requires { ⌜ ((e ≡ missing → ⊥) → e ≤ 9_184_000_000) ⌝ }
     ensures { λ r. ⌜ r ≡ mark (plus cell (unmark e)) ⌝ }
 {
-    if e == NONE {
+    if NONE - (cell as u64) < e {
         return NONE;
     }
     e + cell as u64
@@ -233,6 +234,17 @@ fn end_count(s: Settings, start: usize) -> usize
         return s.counts;
     }
     end
+}
+
+// With fewer layers than this no layer can start at a row from which it would reach row q: they would have to be thicker than tmax.
+fn first_count(s: Settings, q: usize) -> usize
+    requires { ⌜ Sound s ⌝ }
+    ensures { λ r. ⌜ r * s .tmax ≤ q - s .tmax ⌝ }
+{
+    if q < s.tmax {
+        return 0;
+    }
+    (q - s.tmax) / s.tmax
 }
 
 // Row q with no sequence at all.
@@ -272,6 +284,82 @@ fn start_row(
     }
 }
 
+// A last layer put on the sequences of one count: the entry at `to` becomes the better of what it is and of that at `from` with the layer.
+fn put_on(errors: &mut [u64], thicknesses: &mut [u8], from: usize, to: usize, cell: u32, t: usize)
+    requires { ⌜ t ≤ 32 ⌝ }
+    requires { ⌜ Room from to 1 (now errors) (now thicknesses) ⌝ }
+    ensures { λ _. ⌜ PutOn from to cell t 1 (now (errors .entry)) (now (thicknesses .entry)) (now (errors .exit)) (now (thicknesses .exit)) ⌝ }
+{
+    let c = sum_or_none(errors[from], cell);
+    if c < errors[to] {
+        errors[to] = c;
+        thicknesses[to] = t as u8;
+    }
+}
+
+// The same for two counts.
+fn put_two(errors: &mut [u64], thicknesses: &mut [u8], from: usize, to: usize, cell: u32, t: usize)
+    requires { ⌜ t ≤ 32 ⌝ }
+    requires { ⌜ Room from to 2 (now errors) (now thicknesses) ⌝ }
+    ensures { λ _. ⌜ PutOn from to cell t 2 (now (errors .entry)) (now (thicknesses .entry)) (now (errors .exit)) (now (thicknesses .exit)) ⌝ }
+{
+    put_on(errors, thicknesses, from, to, cell, t);
+    put_on(errors, thicknesses, from + 1, to + 1, cell, t);
+}
+
+// The same for four counts.
+fn put_four(errors: &mut [u64], thicknesses: &mut [u8], from: usize, to: usize, cell: u32, t: usize)
+    requires { ⌜ t ≤ 32 ⌝ }
+    requires { ⌜ Room from to 4 (now errors) (now thicknesses) ⌝ }
+    ensures { λ _. ⌜ PutOn from to cell t 4 (now (errors .entry)) (now (thicknesses .entry)) (now (errors .exit)) (now (thicknesses .exit)) ⌝ }
+{
+    put_two(errors, thicknesses, from, to, cell, t);
+    put_two(errors, thicknesses, from + 2, to + 2, cell, t);
+}
+
+// The same for n counts, one by one.
+fn put_few(
+    errors: &mut [u64],
+    thicknesses: &mut [u8],
+    from: usize,
+    to: usize,
+    cell: u32,
+    t: usize,
+    n: usize,
+)
+    requires { ⌜ t ≤ 32 ⌝ }
+    requires { ⌜ Room from to n (now errors) (now thicknesses) ⌝ }
+    ensures { λ _. ⌜ PutOn from to cell t n (now (errors .entry)) (now (thicknesses .entry)) (now (errors .exit)) (now (thicknesses .exit)) ⌝ }
+{
+    let mut m = 0;
+    while m < n {
+        put_on(errors, thicknesses, from + m, to + m, cell, t);
+        m += 1;
+    }
+}
+
+// The same by fours, which is where planning spends its time: a turn's own cost is shared by four counts.
+fn put_all(
+    errors: &mut [u64],
+    thicknesses: &mut [u8],
+    from: usize,
+    to: usize,
+    cell: u32,
+    t: usize,
+    n: usize,
+)
+    requires { ⌜ t ≤ 32 ⌝ }
+    requires { ⌜ Room from to n (now errors) (now thicknesses) ⌝ }
+    ensures { λ _. ⌜ PutOn from to cell t n (now (errors .entry)) (now (thicknesses .entry)) (now (errors .exit)) (now (thicknesses .exit)) ⌝ }
+{
+    let mut m = 0;
+    while m + 3 < n {
+        put_four(errors, thicknesses, from + m, to + m, cell, t);
+        m += 4;
+    }
+    put_few(errors, thicknesses, from + m, to + m, cell, t, n - m);
+}
+
 // One thickness more in row q, for every count that the row where the layer starts can have: a last layer of thickness t, permitted there.
 fn relax(
     table: &[u32],
@@ -279,30 +367,23 @@ fn relax(
     bound: u32,
     q: usize,
     t: usize,
+    first: usize,
     errors: &mut [u64],
     thicknesses: &mut [u8],
 )
     requires { ⌜ Ready s (now table) ⌝ }
     requires { ⌜ Under s (rulesOf s bound (now table)) q (now errors) (now thicknesses) ⌝ }
     requires { ⌜ Usable s (rulesOf s bound (now table)) q t ⌝ }
+    requires { ⌜ first * s .tmax ≤ q - s .tmax ⌝ }
     requires { ⌜ RowTo s (rulesOf s bound (now table)) q (t - 1) (s .counts + 1) (now errors) (now thicknesses) (now errors) (now thicknesses) ⌝ }
     ensures { λ _. ⌜ RowTo s (rulesOf s bound (now (table .entry))) q t (s .counts + 1) (now (errors .entry)) (now (thicknesses .entry)) (now (errors .exit)) (now (thicknesses .exit)) ⌝ }
 {
     let start = q - t;
-    let from = start * (s.counts + 1);
-    let to = q * (s.counts + 1) + 1;
+    let from = start * (s.counts + 1) + first;
+    let to = q * (s.counts + 1) + (first + 1);
     let cell = cell_at(table, s, start, t);
     let end = end_count(s, start);
-    let mut m = start / s.tmax;
-    while m < end {
-        let c = sum_or_none(errors[from + m], cell);
-        let at = to + m;
-        m += 1;
-        if c < errors[at] {
-            errors[at] = c;
-            thicknesses[at] = t as u8;
-        }
-    }
+    put_all(errors, thicknesses, from, to, cell, t, end - first);
 }
 
 // One thickness more in row q, where it may be used.
@@ -312,18 +393,19 @@ fn step_row(
     bound: u32,
     q: usize,
     t: usize,
+    first: usize,
     errors: &mut [u64],
     thicknesses: &mut [u8],
 )
     requires { ⌜ Ready s (now table) ⌝ }
     requires { ⌜ Under s (rulesOf s bound (now table)) q (now errors) (now thicknesses) ⌝ }
-    requires { ⌜ (1 ≤ t) × (t ≤ s .tmax) ⌝ }
+    requires { ⌜ (1 ≤ t) × (t ≤ s .tmax) × (first * s .tmax ≤ q - s .tmax) ⌝ }
     requires { ⌜ RowTo s (rulesOf s bound (now table)) q (t - 1) (s .counts + 1) (now errors) (now thicknesses) (now errors) (now thicknesses) ⌝ }
     ensures { λ _. ⌜ RowTo s (rulesOf s bound (now (table .entry))) q t (s .counts + 1) (now (errors .entry)) (now (thicknesses .entry)) (now (errors .exit)) (now (thicknesses .exit)) ⌝ }
 {
     if t <= q {
         if may_use(table, s, bound, q - t, t) {
-            relax(table, s, bound, q, t, errors, thicknesses);
+            relax(table, s, bound, q, t, first, errors, thicknesses);
         }
     }
 }
@@ -342,10 +424,11 @@ fn fill_row(
     ensures { λ _. ⌜ RowTo s (rulesOf s bound (now (table .entry))) q (s .tmax) (s .counts + 1) (now (errors .entry)) (now (thicknesses .entry)) (now (errors .exit)) (now (thicknesses .exit)) ⌝ }
 {
     start_row(table, s, bound, q, errors, thicknesses);
+    let first = first_count(s, q);
     let mut t = 0;
     while t < s.tmax {
         t += 1;
-        step_row(table, s, bound, q, t, errors, thicknesses);
+        step_row(table, s, bound, q, t, first, errors, thicknesses);
     }
 }
 

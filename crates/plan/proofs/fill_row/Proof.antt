@@ -7,15 +7,15 @@ use Rattle.plan.proofs.fill_row.Statement.{statement}
 use Rattle.plan.proofs.fill_row.Tie as tie
 
 abbrev Inv-loop : tie.InvT-loop
-Inv-loop table s bound q errors₀ thicknesses₀ t₀ errors thicknesses t =
+Inv-loop table s bound q errors₀ thicknesses₀ first t₀ errors thicknesses t =
     (t ≤ s .tmax) × RowTo s (rulesOf s bound table) q t (s .counts + 1) errors₀ thicknesses₀ errors thicknesses
 
 abbrev μ-loop : tie.MeasureT-loop
-μ-loop table s bound q errors₀ thicknesses₀ t₀ errors thicknesses t = s .tmax - t
+μ-loop table s bound q errors₀ thicknesses₀ first t₀ errors thicknesses t = s .tmax - t
 
 module _ (l : tie.At-loop Inv-loop μ-loop) where
   abbrev r : tie.After-start-row Inv-loop μ-loop
-  r = l .before .before .before .before .before
+  r = l .before .before .before .before .before .before
 
   abbrev s : tie.Start Inv-loop μ-loop
   s = r .before .before .before .before .before .before
@@ -31,7 +31,7 @@ step-row-requires c κs =
       s l .pre .0,
       (
         under-row (a .s) (a .bound) (a .table .now) (s l .pre .0) (s l .pre .1) (so-far l),
-        ((omega arith, omega arith), row-as (a .s) _ _ (s l .pre .0) _ (row-self (a .s) _ _ (s l .pre .0) (l .loop .inv .1)) (omega arith) (omega arith)),
+        ((omega arith, omega arith, l .before .first-count .ensures), row-as (a .s) _ _ (s l .pre .0) _ (row-self (a .s) _ _ (s l .pre .0) (l .loop .inv .1)) (omega arith) (omega arith)),
       ),
     )
 
@@ -53,7 +53,8 @@ fill-row-spec =
     Inv-loop
     μ-loop
     (λ c κs. let s = c .before .before .before .before .before in (s .pre .0, (s .pre .1 .row, s .pre .1 .errors-whole, s .pre .1 .thicknesses-whole)))
-    (λ c. let r = c .before .before .before .before in let s = r .before .before .before .before .before .before in (omega arith, row-self (s .args .s) _ _ (s .pre .0) (r .start-row .ensures)))
+    (λ c κs. c .before .before .before .before .before .before .before .before .before .before .pre .0 .sound)
+    (λ c. let r = c .before .before .before .before .before in let s = r .before .before .before .before .before .before in (omega arith, row-self (s .args .s) _ _ (s .pre .0) (r .start-row .ensures)))
     (λ c. omega arith)
     step-row-requires
     (λ c. omega arith)

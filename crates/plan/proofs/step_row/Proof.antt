@@ -9,7 +9,7 @@ relax-requires c κs =
     let s = c .before .before .before .before .before .before .before .before in
     let m = c .before .before .before in
     let u = usable (s .args .s) _ _ (s .pre .0) _ (s .args .t) _ (s .pre .1 .1 .0 .0) (s .pre .1 .1 .0 .1) (m .before .if1 .taken) (m .may-use .ensures) (c .before .before .if2 .taken) in
-    (s .pre .0, (s .pre .1 .0, (u, s .pre .1 .1 .1)))
+    (s .pre .0, (s .pre .1 .0, (u, (s .pre .1 .1 .0 .2, s .pre .1 .1 .1))))
 
 returns-2 : tie.Need-returns-2
 returns-2 c =

@@ -1,0 +1,55 @@
+-- `put_all` meets its contract. The loop's invariant: the layer is put on the sequences of m counts. What four do not fill is left to
+-- `put_few`. Assumes nothing.
+use Prim.Native.Nat.{_-_, _≤_, _+_}
+use native.Mathlib.Omega.{arith}
+use Rattle.plan.specs.Putting.{PutOn, Room}
+use Rattle.plan.proofs.Putting.{put-none, put-more, put-as, room-part, room-rest}
+use Rattle.plan.proofs.put_all.Statement.{statement}
+use Rattle.plan.proofs.put_all.Tie as tie
+
+abbrev Inv-loop : tie.InvT-loop
+Inv-loop errors₀ thicknesses₀ from to cell t n m₀ errors thicknesses m = (m ≤ n) × PutOn from to cell t m errors₀ thicknesses₀ errors thicknesses
+
+abbrev μ-loop : tie.MeasureT-loop
+μ-loop errors₀ thicknesses₀ from to cell t n m₀ errors thicknesses m = n - m
+
+module _ (l : tie.At-loop Inv-loop μ-loop) where
+  abbrev s : tie.Start Inv-loop μ-loop
+  s = l .before .before .before
+
+  rest : Room (s .args .from + l .loop .m) (s .args .to + l .loop .m) (s .args .n - l .loop .m) (l .loop .errors) (l .loop .thicknesses)
+  rest = room-rest _ _ (s .pre .1) (l .loop .inv .1) (l .loop .inv .0)
+
+loop-again : tie.Need-loop-again Inv-loop μ-loop
+loop-again c =
+    let p = c .before .before .before .before in
+    let l = p .before .before .before .before in
+    (omega arith, put-more _ 4 (l .loop .inv .1) (p .put-four .ensures) (omega (arith, s l .pre .1 .apart)))
+
+whole : tie.Need-returns Inv-loop μ-loop
+whole c =
+    let p = c .before .before .before .before in
+    let l = p .before .before .before .before in
+    put-as _ (put-more _ _ (l .loop .inv .1) (p .put-few .ensures) (omega (arith, s l .pre .1 .apart, l .loop .inv .0))) (omega arith) (omega arith)
+
+pub put-all-spec : {M : Type 1} → statement M
+put-all-spec =
+    tie.close
+    (tie.spec
+    Inv-loop
+    μ-loop
+    (λ c. (omega arith, put-none))
+    (λ c. omega (arith, s c .pre .1 .errors-long))
+    (λ c. let l = c .before .before .before in omega (arith, rest l .apart, rest l .errors-long))
+    (λ c. let l = c .before .before .before in omega (arith, rest l .errors-long))
+    (λ c κs. let l = c .before .before .before in (s l .pre .0, room-part _ 4 (rest l) (omega arith)))
+    (λ c. omega arith)
+    (λ c. omega arith)
+    loop-again
+    (λ c. let l = c .before .before .before in omega (arith, rest l .apart, rest l .errors-long))
+    (λ c. let l = c .before .before .before in omega (arith, rest l .errors-long))
+    (λ c. omega (arith, c .before .before .before .loop .inv .0))
+    (λ c κs. let l = c .before .before .before in (s l .pre .0, rest l))
+    (λ c. whole c .errors-are .long)
+    (λ c. whole c .thicknesses-are .long)
+    whole)
