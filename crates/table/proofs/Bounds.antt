@@ -15,8 +15,12 @@ use Rattle.lists.proofs.Checks.{first-none, or-false}
 use Rattle.lists.proofs.Search.{lowest-none, lowest-before}
 use Rattle.paper.specs.Layer.{tmax}
 use Rattle.paper.specs.Table.{cells, limit, thicknessAt, InBounds, mostColumns}
+use Rattle.plate.specs.Settings.{Sound}
+use Rattle.plate.specs.declared.settings.Settings.{Settings}
 use Rattle.table.specs.Cells.{outOfBounds, firstOut, addend, overfull, firstOverfull, notPart, firstNotPart}
+use Rattle.table.specs.Limits.{Bounded}
 use Rattle.table.specs.Calls.{boundChecks, outCell, pairOut}
+use Rattle.table.proofs.Cells.{cells-sound}
 use Rattle.table.proofs.Limits.{limit-le}
 
 pub thickness-le : (T i : ℕ) → 1 ≤ tmax T → thicknessAt T i ≤ tmax T
@@ -36,11 +40,25 @@ module _ (N T c : ℕ) (table : List ℕ) where
         let b = limit-le T c (thicknessAt T i) u (let t = thickness-le T i some in omega arith) in
         omega arith
 
-  pub pair-within : (c′ : ℕ) (other : List ℕ) → none ≡ first (pairOut N T c table c′ other) → (cells N T ≤ firstOut N T c table) × (cells N T ≤ firstOut N T c′ other)
+  pair-within : (c′ : ℕ) (other : List ℕ) → none ≡ first (pairOut N T c table c′ other) → (cells N T ≤ firstOut N T c table) × (cells N T ≤ firstOut N T c′ other)
   unfolding pairOut outCell
   pair-within c′ other e =
       let q = first-none (pairOut N T c table c′ other) .0 (sym e) in
       (ltb-false _ _ (q .0), ltb-false _ _ (q .1 .0))
+
+-- where no cell is out of bounds, none is above the greatest limit: one table's, and those of two that passed 6
+module _ {s : Settings} (k : Sound s) where
+  table-bounded : (c : ℕ) (table : List ℕ) → c ≤ 1_000_000 → cells (s .height) (s .«set») ≤ firstOut (s .height) (s .«set») c table → Bounded (s .cells) table
+  table-bounded c table u h = record {
+    are = λ i l.
+        within-small (s .height) (s .«set») c table (omega (arith, k .greatest, k .thin, k .order)) (omega (arith, k .greatest, k .thick)) u h i (omega (arith, cells-sound k));
+  }
+
+  pub pair-bounded : (c : ℕ) (table : List ℕ) (c′ : ℕ) (other : List ℕ) → c ≤ 1_000_000 → c′ ≤ 1_000_000
+      → none ≡ first (pairOut (s .height) (s .«set») c table c′ other) → Bounded (s .cells) table × Bounded (s .cells) other
+  pair-bounded c table c′ other u u′ e =
+      let w = pair-within (s .height) (s .«set») c table c′ other e in
+      (table-bounded c table u (w .0), table-bounded c′ other u′ (w .1))
 
 module _ (N T c : ℕ) (table bs : List ℕ) where
   pub overfull-fits : cells N T ≤ firstOverfull N T c table bs → 1 ≤ tmax T → tmax T ≤ 32 → c ≤ 1_000_000

@@ -1,10 +1,11 @@
 -- The cells of a row: the cell at the place j of a row has thickness j + 1 and the row's start, so what is tested in a row against the
 -- limits is what document 01 asks of the cell's index; and the cell of a layer, by the datum height of its start, is document 01's, by cases
 -- on the start's sign. Assumes nothing.
-use mathlib.Core.Path.{_≡_, sym, ap, _∙_}
+use mathlib.Core.Path.{_≡_, sym, ap, _∙_, subst}
 use mathlib.Core.Bool.{Bool, true, false, cond, _&&_, _||_}
 use mathlib.Core.List.{List}
-use Prim.Native.Nat.{ℕ, suc, _+_, _-_, _*_, _/_, _≤_, _<_}
+use Prim.Native.Nat.{ℕ, suc, _+_, _-_, _*_, _/_, _%_, _≤_, _<_}
+use native.Mathlib.Nat.{mod-lt, div-add-mod', div-lt-iff-lt-mul}
 use native.Mathlib.Omega.{arith}
 use lib.Arith.{digits-lt, digits-div, digits-mod}
 use lib.Dec.{ltb}
@@ -19,7 +20,7 @@ use Rattle.plate.specs.declared.settings.Settings.{Settings}
 use Rattle.plate.proofs.Datum.{neg-height, sum-height, natural-sub}
 use Rattle.column.proofs.Shares.{share-le}
 use Rattle.table.specs.Cells.{cellFrom, outOfBounds, addend, overfull, notPart}
-use Rattle.table.specs.Limits.{Limits, above, heaped, apart}
+use Rattle.table.specs.Limits.{Limits, Within, above, heaped, apart}
 
 module _ (T m r j : ℕ) (e : m ≡ tmax T) (l : j < m) where
   pub thickness-row : thicknessAt T (r * m + j) ≡ j + 1
@@ -81,6 +82,16 @@ module _ {s : Settings} (k : Sound s) (r : ℕ) (l : r < s .rows) where
 
   pub cell-fits : (j : ℕ) → j < s .tmax → r * s .tmax + j < 18_368
   cell-fits j u = let i = cell-in j u in omega (arith, k .few-cells)
+
+-- every cell stands in a row: where no row has a cell above its limit, no cell is out of bounds
+pub rows-within : {s : Settings} → Sound s → (c : ℕ) (limits table : List ℕ) → Limits (s .«set») c limits
+    → ((r : ℕ) → r < s .rows → Within limits table (r * s .tmax) (s .tmax)) → (i : ℕ) → i < s .cells → outOfBounds (s .«set») c table i ≡ false
+rows-within {s} k c limits table are w i l =
+    let p : 1 ≤ s .tmax = omega (arith, k .thin, k .order) in
+    let u = mod-lt i p in
+    let r = div-lt-iff-lt-mul {x = i} {y = s .rows} p .1 (omega (arith, k .cells-are)) in
+    subst (λ (x : ℕ). outOfBounds (s .«set») c table x ≡ false) (div-add-mod' i (s .tmax))
+    (out-row (s .«set») (s .tmax) (i / s .tmax) (i % s .tmax) (k .greatest) u c limits are (k .thick) table ∙ w (i / s .tmax) r (i % s .tmax) u)
 
 -- the row of a start
 row : (m : ℕ) (z : ℤ) → 1 ≤ m → m ≤ 32 → natural (z +ℤ pos (m - 1)) ≡ datum z + m - 33

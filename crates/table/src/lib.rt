@@ -12,7 +12,7 @@ ghost use Rattle.plate.specs.Refusal.{decided, after};
 ghost use Rattle.plate.specs.Settings.{Sound};
 ghost use Rattle.table.specs.Cells.{firstOut, addend, firstOverfull, firstNotPart};
 ghost use Rattle.table.specs.Tabled.{toldTable, tallyOf};
-ghost use Rattle.table.specs.Limits.{Limits, above, heaped, apart};
+ghost use Rattle.table.specs.Limits.{Limits, Bounded, Within, above, heaped, apart};
 ghost use Rattle.table.specs.Calls.{tableRest, tableChecks, clearAnswer, clearTable, addRest, addAnswer, added, addTable, Paired, pairOut, joinRest, joinAnswer, joined, joinTable, partChecks, takeRest, takeAnswer, taken, takeTable};
 use column::check_column;
 use column::judge;
@@ -89,16 +89,47 @@ fn exceeds(limit: u32, cell: u32) -> u32
     if limit < cell { 1 } else { 0 }
 }
 
-// How many cells of a row are above their limits. The loop has no way out, so that it is quick where there is none, as there mostly is.
-fn count_above(table: &[u32], limits: &[u32; 32], base: usize, width: usize) -> u32
-    requires { ⌜ (width ≤ 32) × (base + width ≤ length (now table)) ⌝ }
-    ensures { λ r. ⌜ (r ≡ 0 → (j : ℕ) → j < width → above (now (limits .entry)) (now (table .entry)) base j ≡ false) ⌝ }
+// How many cells of two rows are above their limits. The loop has no way out, so that it is quick where there is none, as there mostly is.
+fn count_above(table: &[u32], limits: &[u32; 32], base: usize, next: usize, width: usize) -> u32
+    requires { ⌜ (width ≤ 32) × ((base + width ≤ length (now table)) × (next + width ≤ length (now table))) ⌝ }
+    ensures { λ r. ⌜ (r ≤ 64) × (r ≡ 0 → Within (now (limits .entry)) (now (table .entry)) base width × Within (now (limits .entry)) (now (table .entry)) next width) ⌝ }
 {
     let mut count: u32 = 0;
     let mut j: usize = 0;
     while j < width {
-        count += exceeds(limits[j], table[base + j]);
+        let limit = limits[j];
+        count += exceeds(limit, table[base + j]) + exceeds(limit, table[next + j]);
         j += 1;
+    }
+    count
+}
+
+// The first cell of the row that is looked through beside a row: the next row's, or its own where it is the last.
+fn partner_of(s: Settings, row: usize) -> usize
+    requires { ⌜ Sound s ⌝ }
+    requires { ⌜ row < s .rows ⌝ }
+    ensures { λ r. ⌜ (r + s .tmax ≤ s .cells) × (row + 1 < s .rows → r ≡ (row + 1) * s .tmax) ⌝ }
+{
+    let base = row * s.tmax;
+    if row + 1 < s.rows {
+        return base + s.tmax;
+    }
+    base
+}
+
+// How many cells of all rows are above their limits, where a last row that has no partner counts twice.
+fn count_all_above(table: &[u32], limits: &[u32; 32], s: Settings) -> u32
+    requires { ⌜ Sound s ⌝ }
+    requires { ⌜ s .cells ≤ length (now table) ⌝ }
+    ensures { λ r. ⌜ (r ≡ 0 → (row : ℕ) → row < s .rows → Within (now (limits .entry)) (now (table .entry)) (row * s .tmax) (s .tmax)) ⌝ }
+{
+    let mut count: u32 = 0;
+    let mut row: usize = 0;
+    while row < s.rows {
+        let base = row * s.tmax;
+        let next = partner_of(s, row);
+        count += count_above(table, limits, base, next, s.tmax);
+        row += 2;
     }
     count
 }
@@ -118,28 +149,20 @@ fn search_above(table: &[u32], limits: &[u32; 32], base: usize, width: usize) ->
     j
 }
 
-// The same, where there is mostly none.
-fn above_row(table: &[u32], limits: &[u32; 32], base: usize, width: usize) -> usize
-    requires { ⌜ (width ≤ 32) × (base + width ≤ length (now table)) ⌝ }
-    ensures { λ r. ⌜ r ≡ lowest (above (now (limits .entry)) (now (table .entry)) base) width ⌝ }
-{
-    if count_above(table, limits, base, width) == 0 {
-        return width;
-    }
-    search_above(table, limits, base, width)
-}
-
-// The lowest cell out of bounds for so many columns, or the number of cells.
+// The lowest cell out of bounds for so many columns, or the number of cells. Mostly there is none, which counting tells sooner than a search.
 fn first_out(table: &[u32], s: Settings, columns: u32) -> usize
     requires { ⌜ Sound s ⌝ }
     requires { ⌜ (columns ≤ 1000000) × (s .cells ≤ length (now table)) ⌝ }
     ensures { λ r. ⌜ r ≡ firstOut (s .height) (s .«set») columns (now (table .entry)) ⌝ }
 {
     let limits = limits_of(s.set, columns);
+    if count_all_above(table, &limits, s) == 0 {
+        return s.cells;
+    }
     let mut row: usize = 0;
     while row < s.rows {
         let base = row * s.tmax;
-        let j = above_row(table, &limits, base, s.tmax);
+        let j = search_above(table, &limits, base, s.tmax);
         if j < s.tmax {
             return base + j;
         }
@@ -148,19 +171,18 @@ fn first_out(table: &[u32], s: Settings, columns: u32) -> usize
     s.cells
 }
 
-// 1 where a difference is negative or above its limit, and 0 elsewhere.
+// 1 where a difference is negative or above its limit, and 0 elsewhere: a negative one wraps to beyond every limit.
 fn parts(limit: u32, cell: u32, other: u32) -> u32
+    requires { ⌜ (limit ≤ 16000000) × (other ≤ 16000000) ⌝ }
     ensures { λ r. ⌜ (r ≤ 1) × (r ≡ 0 → (other ≤ cell) × (cell - other ≤ limit)) ⌝ }
 {
-    if cell < other {
-        return 1;
-    }
-    exceeds(limit, cell - other)
+    exceeds(limit, std::num::wrapping_sub_u32(cell, other))
 }
 
 // How many differences of a row are negative or above their limits.
 fn count_apart(table: &[u32], other: &[u32], limits: &[u32; 32], base: usize, width: usize) -> u32
     requires { ⌜ (width ≤ 32) × ((base + width ≤ length (now table)) × (base + width ≤ length (now other))) ⌝ }
+    requires { ⌜ Bounded 32 (now limits) × Bounded (base + width) (now other) ⌝ }
     ensures { λ r. ⌜ (r ≡ 0 → (j : ℕ) → j < width → apart (now (limits .entry)) (now (table .entry)) (now (other .entry)) base j ≡ false) ⌝ }
 {
     let mut count: u32 = 0;
@@ -201,6 +223,7 @@ fn search_apart(
 // The same, where there is mostly none.
 fn apart_row(table: &[u32], other: &[u32], limits: &[u32; 32], base: usize, width: usize) -> usize
     requires { ⌜ (width ≤ 32) × ((base + width ≤ length (now table)) × (base + width ≤ length (now other))) ⌝ }
+    requires { ⌜ Bounded 32 (now limits) × Bounded (base + width) (now other) ⌝ }
     ensures { λ r. ⌜ r ≡ lowest (apart (now (limits .entry)) (now (table .entry)) (now (other .entry)) base) width ⌝ }
 {
     if count_apart(table, other, limits, base, width) == 0 {
@@ -213,6 +236,7 @@ fn apart_row(table: &[u32], other: &[u32], limits: &[u32; 32], base: usize, widt
 fn first_not_part(table: &[u32], other: &[u32], s: Settings, columns: u32) -> usize
     requires { ⌜ Sound s ⌝ }
     requires { ⌜ (columns ≤ 1000000) × ((s .cells ≤ length (now table)) × (s .cells ≤ length (now other))) ⌝ }
+    requires { ⌜ Bounded (s .cells) (now other) ⌝ }
     ensures { λ r. ⌜ r ≡ firstNotPart (s .height) (s .«set») columns (now (table .entry)) (now (other .entry)) ⌝ }
 {
     let limits = limits_of(s.set, columns);
@@ -567,6 +591,7 @@ fn take_part(
 ) -> Tabled
     requires { ⌜ Sound s ⌝ }
     requires { ⌜ (columns ≤ 1000000) × ((s .cells ≤ length (now table)) × (s .cells ≤ length (now other))) ⌝ }
+    requires { ⌜ Bounded (s .cells) (now other) ⌝ }
     ensures { λ r. ⌜ (toldTable r ≡ decided (partChecks (s .height) (s .«set») columns (now (table .entry)) «other_columns» (now (other .entry))) (tallyOf (columns - «other_columns»)))
         × (now (table .exit) ≡ after (decided (partChecks (s .height) (s .«set») columns (now (table .entry)) «other_columns» (now (other .entry))) (tallyOf (columns - «other_columns»))) (taken (s .height) (s .«set») (now (table .entry)) (now (other .entry))) (now (table .entry))) ⌝ }
 {

@@ -9,7 +9,7 @@ pub apart-row-spec : {M : Type 1} → statement M
 apart-row-spec =
     tie.close
     (tie.spec
-    (λ c κs. search needs)
+    (λ c κs. c .before .before .pre)
     (λ c. sym (lowest-none _ _ (c .before .count-apart .ensures (c .if1 .taken))))
     (λ c κs. search needs)
     (λ c. c .search-apart .ensures))

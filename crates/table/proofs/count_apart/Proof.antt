@@ -44,7 +44,10 @@ count-apart-spec =
     (λ c. search needs)
     (λ c. search needs)
     (λ c. search needs)
-    (λ c κs. search needs)
+    (λ c κs.
+    let l = c .before .before .before .before in
+    let b = l .before .before .before .pre .1 in
+    (b .0 .are (l .loop .j) (omega arith), b .1 .are _ (omega arith)))
     (λ c. search needs)
     (λ c. search needs)
     (λ c. search needs)

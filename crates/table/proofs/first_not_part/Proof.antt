@@ -1,5 +1,5 @@
--- `first_not_part` meets its contract. The loop's invariant: in no row before is a cell no part of the first table's. A row is searched against the limits,
--- which for its cells is the same test. Assumes nothing.
+-- `first_not_part` meets its contract. The loop's invariant: in no row before is a cell no part of the first table's. A row is searched
+-- against the limits, which for its cells is the same test, and which are no greater than the greatest limit. Assumes nothing.
 use mathlib.Core.Path.{_≡_}
 use mathlib.Core.Bool.{false}
 use Prim.Native.Nat.{ℕ, _-_, _*_, _≤_, _<_}
@@ -9,6 +9,7 @@ use Rattle.lists.proofs.Search.{row-missed, row-found, missed}
 use Rattle.table.specs.Cells.{notPart, firstNotPart}
 use Rattle.table.specs.Limits.{Limits}
 use Rattle.table.proofs.Cells.{part-row, row-in, cells-sound}
+use Rattle.table.proofs.Limits.{limits-bounded, bounded-less}
 use Rattle.table.proofs.first_not_part.Statement.{statement}
 use Rattle.table.proofs.first_not_part.Tie as tie
 
@@ -56,7 +57,12 @@ first-not-part-spec =
     (λ c κs. search needs)
     (λ c. (omega arith, c .limits-of .ensures, λ i u. absurd (omega arith)))
     (λ c. let l = c .before .before .before in let k = l .before .before .before .before .pre .0 in omega (arith, row-in k (l .loop .row) (omega arith), k .few-cells))
-    (λ c κs. let l = c .before .before .before .before in let k = l .before .before .before .before .pre .0 in (k .thick, (omega (arith, row-in k (l .loop .row) (omega arith)), omega (arith, row-in k (l .loop .row) (omega arith)))))
+    (λ c κs.
+    let l = c .before .before .before .before in
+    let s = l .before .before .before .before in
+    let k = s .pre .0 in
+    let r = row-in k (l .loop .row) (omega arith) in
+    ((k .thick, (omega arith, omega arith)), (limits-bounded (s .pre .1 .0 .0) (l .loop .inv .1), bounded-less _ r (s .pre .1 .1))))
     (λ c. let l = c .before .before .before .before .before .before .before in let k = l .before .before .before .before .pre .0 in omega (arith, row-in k (l .loop .row) (omega arith), k .few-cells))
     returns
     (λ c. search needs)

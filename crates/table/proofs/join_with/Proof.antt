@@ -19,7 +19,7 @@ use Rattle.table.specs.declared.Tally.{Tally}
 use Rattle.table.specs.Tabled.{tallyOf}
 use Rattle.table.specs.Calls.{pairOut, joinRest, joined}
 use Rattle.table.proofs.Cells.{cells-sound}
-use Rattle.table.proofs.Bounds.{pair-within, within-small}
+use Rattle.table.proofs.Bounds.{pair-bounded}
 use Rattle.table.proofs.Answers.{stop, join-short, join-short-other, join-many, join-many-other, join-many-both, join-pair}
 use Rattle.table.proofs.join_with.Statement.{statement}
 use Rattle.table.proofs.join_with.Tie as tie
@@ -59,14 +59,8 @@ join-cells-requires c κs =
     let d = c .before .before .before in
     let a = s d .args in
     let k = s d .pre in
-    let e = cells-sound k in
-    let w = pair-within (a .s .height) (a .s .«set») (a .columns) (a .table .now) (a .other-columns) (a .other .now) (ap saidBy (sym (c .before .enum-told .given .1)) ∙ said d) in (
-      (omega arith, omega arith),
-      λ i l.
-          let x = within-small (a .s .height) (a .s .«set») (a .columns) (a .table .now) (omega (arith, k .greatest, k .thin, k .order)) (omega (arith, k .greatest, k .thick)) (omega arith) (w .0) i (omega arith) in
-          let y = within-small (a .s .height) (a .s .«set») (a .other-columns) (a .other .now) (omega (arith, k .greatest, k .thin, k .order)) (omega (arith, k .greatest, k .thick)) (omega arith) (w .1) i (omega arith) in
-          omega arith,
-    )
+    let b = pair-bounded k (a .columns) (a .table .now) (a .other-columns) (a .other .now) (omega arith) (omega arith) (ap saidBy (sym (c .before .enum-told .given .1)) ∙ said d) in
+    ((omega arith, omega arith), λ i l. omega (arith, b .0 .are i l, b .1 .are i l))
 
 returns-7 : tie.Need-returns-7
 returns-7 c =

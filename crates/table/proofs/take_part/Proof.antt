@@ -39,7 +39,7 @@ take-part-spec =
     (tie.spec
     (λ c κs. search needs)
     (λ c. stop _ _ _ _ _ _ (c .refused .ensures) (part-greater _ _ _ _ _ _ _ (c .before .if1 .taken)))
-    (λ c κs. let s = c .before .before .before .before in (s .pre .0, (omega arith, (omega arith, omega arith))))
+    (λ c κs. let s = c .before .before .before .before in (s .pre .0, ((omega arith, (omega arith, omega arith)), s .pre .1 .1)))
     (λ c κs. search needs)
     (λ c. search needs)
     (λ c.
