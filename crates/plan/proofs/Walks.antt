@@ -1,24 +1,25 @@
--- A walk down a sheet, layer by layer, as the loops go: `look` tells the thickness t of the layer k under the height h, and what is left of
--- the walk ends as the whole does. Assumes nothing.
+-- A walk down a sheet, layer by layer, as the loop goes: `look` tells the thickness t of the layer k under the height h. What is left of the
+-- walk ends as the whole does, and its boundaries, under the heights that are noted, are those of the whole. The heights are then written
+-- from the lowest up, over what the output held. Assumes nothing.
 use Prim.Native.Nat.{ℕ, zero, suc, _+_, _-_, _≤_, _<_}
 use mathlib.Core.Path.{_≡_, refl, sym, ap, _∙_}
-use mathlib.Core.Bool.{Bool, true, false, cond, _&&_}
-use mathlib.Core.List.{List, _∷_}
-use mathlib.Core.Option.{Option, none, some}
-use native.Mathlib.Nat.{le-of-lt}
+use mathlib.Core.Bool.{true, false, cond, _&&_}
+use mathlib.Core.List.{List, [], _∷_, _++_, map}
+use mathlib.Core.Option.{none, some}
+use native.Mathlib.Nat.{le-of-lt, not-suc-le-zero, le-of-suc-le-suc}
 use native.Mathlib.Numerals.{add-one, sub-one}
 use native.Mathlib.Omega.{arith}
-use borrow.Author.Tests.{le-leb, lt-leb, leb-true}
+use borrow.Author.Tests.{le-leb, lt-leb}
 use lib.Dec.{leb}
 use lib.IntN.{ℤ}
-use lib.ListN.{length, set, take, drop}
-use lib.Seq.{set-split, drop-at, length-take-le}
+use lib.ListN.{length, set, take, drop, getD}
+use lib.Seq.{set-split, drop-at, length-take-le, take-set-lt, slice-empty}
 use Rattle.paper.specs.Layer.{allowed, tmax}
 use Rattle.plate.specs.Datum.{heightOf}
 use Rattle.sequence.specs.Sheets.{faultUnder, boundariesUnder}
-use Rattle.plan.specs.Walking.{faultOf}
+use Rattle.plan.specs.Walking.{faultOf, notedFrom, Walked}
 use Rattle.plan.specs.declared.Walk.{Walk}
-use Rattle.plan.specs.declared.Walk.the-variants.{Fine}
+use Rattle.plan.specs.declared.Walk.the-variants.{Fault}
 
 fault-step : (look : ℕ → ℕ → ℕ) (T k h : ℕ) → 0 < k → faultUnder look T k h
     ≡ cond (allowed T (look k h) && leb (33 + look k h) (h + tmax T)) (faultUnder look T (k - 1) (h - look k h)) (some k)
@@ -31,12 +32,6 @@ boundaries-step : (look : ℕ → ℕ → ℕ) (k h : ℕ) (above : List ℤ) �
 unfolding boundariesUnder
 boundaries-step look zero h above p = absurd (omega arith)
 boundaries-step look (suc k) h above p = rw sub-one
-
--- a walk of one layer more has no fault only where its layer reads back and the rest has none
-clear : (a b : Bool) (rest : Option ℕ) (k : ℕ) → cond (a && b) rest (some k) ≡ none → (a ≡ true) × (b ≡ true) × (rest ≡ none)
-clear true true rest k e = (refl, refl, e)
-clear true false rest k e = let z : _≡_ {A = ℕ} 0 1 = cc in absurd (omega arith)
-clear false b rest k e = let z : _≡_ {A = ℕ} 0 1 = cc in absurd (omega arith)
 
 module _ (look : ℕ → ℕ → ℕ) (T k h t : ℕ) (p : 0 < k) (is : t ≡ look k h) where
   step : faultUnder look T k h ≡ cond (allowed T t && leb (33 + t) (h + tmax T)) (faultUnder look T (k - 1) (h - t)) (some k)
@@ -53,16 +48,6 @@ module _ (look : ℕ → ℕ → ℕ) (T k h t : ℕ) (p : 0 < k) (is : t ≡ lo
   pub fault-on : allowed T t ≡ true → 33 + t ≤ h + tmax T → faultUnder look T k h ≡ faultUnder look T (k - 1) (h - t)
   fault-on e l = step ∙ rw (e, le-leb (33 + t) (h + tmax T) l)
 
-  module _ (e : faultUnder look T k h ≡ none) where
-    parts : (allowed T t ≡ true) × (leb (33 + t) (h + tmax T) ≡ true) × (faultUnder look T (k - 1) (h - t) ≡ none)
-    parts = clear (allowed T t) (leb (33 + t) (h + tmax T)) (faultUnder look T (k - 1) (h - t)) k (sym step ∙ e)
-
-    pub clear-above : 33 + t ≤ h + tmax T
-    clear-above = leb-true (33 + t) (h + tmax T) (parts .1)
-
-    pub clear-under : faultUnder look T (k - 1) (h - t) ≡ none
-    clear-under = parts .2
-
 -- the end of a walk
 pub fault-end : (look : ℕ → ℕ → ℕ) (T k h : ℕ) → k ≡ 0 → 32 < h → faultUnder look T k h ≡ some 0
 unfolding faultUnder
@@ -72,22 +57,53 @@ pub fine-end : (look : ℕ → ℕ → ℕ) (T k h : ℕ) → k ≡ 0 → h ≤ 
 unfolding faultUnder
 fine-end look T k h e l = rw (e, le-leb h 32 l)
 
--- a walk that was found fine has no fault
-pub no-fault : (look : ℕ → ℕ → ℕ) (T n top : ℕ) (w : Walk) → w ≡ Fine → faultOf w ≡ faultUnder look T n top → faultUnder look T n top ≡ none
-no-fault look T n top w e q = sym q ∙ ap faultOf e
-
 -- a store at k, seen from k on
-stored : (l : List ℤ) (k : ℕ) (z : ℤ) → k < length l → drop k (set l k z) ≡ z ∷ drop (k + 1) l
-stored l k z p = ap (drop k) (set-split l k z p) ∙ drop-at (take k l) (z ∷ drop (suc k) l) k (length-take-le k l (le-of-lt p)) ∙ rw add-one
+stored : (l : List ℕ) (k h : ℕ) → k < length l → drop k (set l k h) ≡ h ∷ drop (k + 1) l
+stored l k h p = ap (drop k) (set-split l k h p) ∙ drop-at (take k l) (h ∷ drop (suc k) l) k (length-take-le k l (le-of-lt p)) ∙ rw add-one
 
--- one boundary written: those still to write and what stands past them are as before
-pub written-more : (look : ℕ → ℕ → ℕ) (k h t : ℕ) (l : List ℤ) (z : ℤ) → 0 < k → k < length l → t ≡ look k h → z ≡ heightOf h
-    → boundariesUnder look (k - 1) (h - t) (drop (k - 1 + 1) (set l k z)) ≡ boundariesUnder look k h (drop (k + 1) l)
-written-more look k h t l z p q is at =
+noted : (n k h : ℕ) (l : List ℕ) → k ≤ n → n < length l → notedFrom k n (set l k h) ≡ heightOf h ∷ notedFrom (k + 1) n l
+noted n k h l p q =
+    let long : length (take (n + 1) l) ≡ n + 1 = length-take-le (n + 1) l (omega arith) in
+    ap (λ (r : List ℕ). map heightOf (drop k r)) (take-set-lt (n + 1) l k h (omega arith))
+    ∙ ap (map heightOf) (stored (take (n + 1) l) k h (omega arith))
+
+-- one height noted: the boundaries still to note, under those that are, are as before
+pub noted-more : (look : ℕ → ℕ → ℕ) (n k h t : ℕ) (l : List ℕ) → 0 < k → k ≤ n → n < length l → t ≡ look k h
+    → boundariesUnder look (k - 1) (h - t) (notedFrom (k - 1 + 1) n (set l k h)) ≡ boundariesUnder look k h (notedFrom (k + 1) n l)
+noted-more look n k h t l p u q is =
     let back : k - 1 + 1 ≡ k = omega arith in
-    rw (back, stored l k z q, at, is) (sym (boundaries-step look k h (drop (k + 1) l) p))
+    rw (back, noted n k h l u q, is) (sym (boundaries-step look k h (notedFrom (k + 1) n l) p))
 
-pub written-last : (look : ℕ → ℕ → ℕ) (k h : ℕ) (l : List ℤ) (z : ℤ) → k ≡ 0 → 0 < length l → z ≡ heightOf h
-    → set l 0 z ≡ boundariesUnder look k h (drop (k + 1) l)
+pub noted-last : (look : ℕ → ℕ → ℕ) (n k h : ℕ) (l : List ℕ) → k ≡ 0 → n < length l
+    → notedFrom 0 n (set l 0 h) ≡ boundariesUnder look k h (notedFrom (k + 1) n l)
 unfolding boundariesUnder
-written-last look k h l z e q at = stored l 0 z q ∙ rw (at, e)
+noted-last look n k h l e q = noted n 0 h l (omega arith) q ∙ rw e
+
+-- before the first step none is noted
+pub noted-none : (n : ℕ) (l : List ℕ) → notedFrom (n + 1) n l ≡ []
+noted-none n l = ap (map heightOf) (slice-empty (n + 1) l)
+
+-- boundaries over what stands past them
+boundaries-over : (look : ℕ → ℕ → ℕ) (m h : ℕ) (above rest : List ℤ)
+    → boundariesUnder look m h above ++ rest ≡ boundariesUnder look m h (above ++ rest)
+unfolding boundariesUnder
+boundaries-over look zero h above rest = refl
+boundaries-over look (suc m) h above rest = boundaries-over look m (h - look (suc m) h) (heightOf h ∷ above) rest
+
+-- a walk with a fault has nothing to note
+pub faulted : (look : ℕ → ℕ → ℕ) (T n top layer : ℕ) (heights : List ℕ) → faultUnder look T n top ≡ some layer → Walked look T n top (Fault layer) heights
+faulted look T n top layer heights e = record { ends = sym e; notes = λ q. let z : _≡_ {A = ℕ} 0 1 = cc in absurd (omega arith) }
+
+-- what a walk without a fault noted, over what stands past it
+pub noted-under : (look : ℕ → ℕ → ℕ) (T n top : ℕ) (walk : Walk) (heights : List ℕ) (rest new : List ℤ) → Walked look T n top walk heights → faultOf walk ≡ none
+    → new ≡ notedFrom 0 n heights ++ rest → new ≡ boundariesUnder look n top rest
+noted-under look T n top walk heights rest new w e is = is ∙ ap (λ (l : List ℤ). l ++ rest) (w .notes e) ∙ boundaries-over look n top [] rest
+
+-- a turn of the loop that writes the heights
+pub written : (l : List ℕ) (old : List ℤ) (k : ℕ) (z : ℤ) → k < length l → k < length old → z ≡ heightOf (getD l k 0)
+    → set (map heightOf (take k l) ++ drop k old) k z ≡ map heightOf (take (suc k) l) ++ drop (suc k) old
+written [] old k z p q e = absurd (not-suc-le-zero p)
+written (x ∷ l) [] k z p q e = absurd (not-suc-le-zero q)
+written (x ∷ l) (y ∷ old) zero z p q e = ap (λ (w : ℤ). w ∷ old) e
+written (x ∷ l) (y ∷ old) (suc k) z p q e =
+    ap (λ (r : List ℤ). heightOf x ∷ r) (written l old k z (le-of-suc-le-suc p) (le-of-suc-le-suc q) e)

@@ -12,13 +12,13 @@ ghost use Rattle.plan.specs.Plan.{planRest, planAnswer, planSheets, shee
 ghost use Rattle.lists.specs.Rewrite.{Span};
 ghost use Rattle.paper.specs.Sheets.{missing};
 ghost use Rattle.sequence.specs.Least.{plus};
-ghost use Rattle.sequence.specs.Sheets.{mark, unmark, entry, endOf, faultUnder, boundariesUnder};
+ghost use Rattle.sequence.specs.Sheets.{mark, unmark, entry, endOf};
 ghost use Rattle.table.specs.Cells.{cellFrom};
 ghost use Rattle.plan.specs.Planning.{Ready, planRules, plannedErrors, plannedThicknesses, plannedList};
 ghost use Rattle.plan.specs.Putting.{Room, PutOn};
 ghost use Rattle.plan.specs.Rows.{rulesOf, RowTo, Under, Usable, Planned};
 ghost use Rattle.plan.specs.Reading.{entryChecks, roomChecks, readAnswer, readOut};
-ghost use Rattle.plan.specs.Walking.{faultOf, Within, Roomy, Answered};
+ghost use Rattle.plan.specs.Walking.{Within, Walked, notedFrom, Roomy, Answered};
 use plate::height::height_of;
 use plate::refusal::Answer;
 use plate::refusal::Checked;
@@ -78,15 +78,18 @@ fn thickness_at(thicknesses: &[u8], s: Settings, h: usize, m: usize) -> usize
     thicknesses[(h + s.tmax - 33) * (s.counts + 1) + m] as usize
 }
 
-// Walks down from height top through n layers, and says how that ends.
-fn check_walk(thicknesses: &[u8], s: Settings, n: usize, top: usize) -> Walk
+// Walks down from height top through n layers, notes each boundary's height, and says how the walk ends. Each step waits for the one before,
+// so that a second walk, to write what the first one found, would take as long again.
+fn walk_down(thicknesses: &[u8], s: Settings, n: usize, top: usize, heights: &mut [u16]) -> Walk
     requires { ⌜ Sound s ⌝ }
     requires { ⌜ Within s (length (now thicknesses)) n top ⌝ }
-    ensures { λ r. ⌜ faultOf r ≡ faultUnder (entry (s .height) (s .«set») (now (thicknesses .entry))) (s .«set») n top ⌝ }
+    requires { ⌜ n < length (now heights) ⌝ }
+    ensures { λ r. ⌜ Walked (entry (s .height) (s .«set») (now (thicknesses .entry))) (s .«set») n top r (now (heights .exit)) ⌝ }
 {
     let mut h = top;
     let mut k = n;
     while 0 < k {
+        heights[k] = h as u16;
         let t = thickness_at(thicknesses, s, h, k);
         if !is_allowed(s.set, t) {
             return Walk::Fault(k);
@@ -100,29 +103,24 @@ fn check_walk(thicknesses: &[u8], s: Settings, n: usize, top: usize) -> Walk
     if 32 < h {
         return Walk::Fault(0);
     }
+    heights[0] = h as u16;
     Walk::Fine
 }
 
-// Writes the boundaries of a walk without a fault, from the top down.
-fn write_walk(thicknesses: &[u8], s: Settings, n: usize, top: usize, out: &mut [i32])
-    requires { ⌜ Sound s ⌝ }
-    requires { ⌜ Within s (length (now thicknesses)) n top ⌝ }
-    requires { ⌜ (n < length (now out)) × (faultUnder (entry (s .height) (s .«set») (now thicknesses)) (s .«set») n top ≡ none) ⌝ }
-    ensures { λ r. ⌜ now (out .exit) ≡ boundariesUnder (entry (s .height) (s .«set») (now (thicknesses .entry))) n top (drop (n + 1) (now (out .entry))) ⌝ }
+// Writes the heights that a walk noted, as whole numbers, from the lowest boundary up.
+fn write_heights(heights: &[u16], n: usize, out: &mut [i32])
+    requires { ⌜ (n < length (now heights)) × (n < length (now out)) ⌝ }
+    ensures { λ _. ⌜ now (out .exit) ≡ notedFrom 0 n (now (heights .entry)) ++ drop (n + 1) (now (out .entry)) ⌝ }
 {
-    let mut h = top;
-    let mut k = n;
-    while 0 < k {
-        let z = height_of(h as u16);
-        out[k] = z;
-        h -= thickness_at(thicknesses, s, h, k);
-        k -= 1;
+    let mut k: usize = 0;
+    while k <= n {
+        out[k] = height_of(heights[k]);
+        k += 1;
     }
-    let z = height_of(h as u16);
-    out[0] = z;
 }
 
-// Where the buffers are long enough: 11, 12. The walk is checked first and written only then.
+// Where the buffers are long enough: 11, 12. Nothing is written before the walk has ended without a fault. A count is at most 574, so that
+// there are at most 575 boundaries.
 fn read_entries(
     errors: &[u64],
     thicknesses: &[u8],
@@ -139,11 +137,12 @@ fn read_entries(
     if end.error == NONE {
         return refused(Reason::NoSequence, 0);
     }
-    let walk = check_walk(thicknesses, s, n, end.top);
+    let mut heights = [0u16; 576];
+    let walk = walk_down(thicknesses, s, n, end.top, &mut heights);
     if let Walk::Fault(layer) = walk {
         return refused(Reason::Unreadable, layer);
     }
-    write_walk(thicknesses, s, n, end.top, out);
+    write_heights(&heights, n, out);
     Answer::Done(end.error)
 }
 

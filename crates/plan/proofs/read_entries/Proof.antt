@@ -12,7 +12,7 @@ use Rattle.sequence.specs.Sheets.{endOf}
 use Rattle.plan.specs.Reading.{isNothing}
 use Rattle.plan.specs.Walking.{faultOf, Within}
 use Rattle.plan.proofs.Ends.{end-small, end-nothing, end-found, end-height}
-use Rattle.plan.proofs.Walks.{no-fault}
+use Rattle.plan.proofs.Walks.{noted-under}
 use Rattle.plan.proofs.Answers.{refuses, no-end, bad-walk, good-walk}
 use Rattle.plan.proofs.read_entries.Statement.{statement}
 use Rattle.plan.proofs.read_entries.Tie as tie
@@ -53,28 +53,23 @@ returns c =
 returns-2 : tie.Need-returns-2
 returns-2 c =
     let w = c .before .before in
-    let k = w .before .before in
-    let e = k .before .before .before in
+    let k = w .before .before .before in
+    let e = k .before .before .before .before in
     refuses _ _ _ _ _ _ _ _ _ _ (ap told (c .refused2 .ensures))
-    (bad-walk _ _ _ _ _ (with-end e (k .before .if1 .left)) _ _ (e .end-of .ensures .1) (k .check-walk .ensures) _ (ap faultOf (w .walk .given .1)))
+    (bad-walk _ _ _ _ _ (with-end e (k .before .before .if1 .left)) _ _ (e .end-of .ensures .1) (k .walk-down .ensures .ends) _ (ap faultOf (w .walk .given .1)))
 
 returns-3 : tie.Need-returns-3
 returns-3 c =
-    let t = c .before .before .before in
-    let k = t .before .before in
-    let e = k .before .before .before in
-    good-walk _ _ _ _ _ (with-end e (k .before .if1 .left)) _ _ (e .end-of .ensures .1) (k .check-walk .ensures) _ _ _ (e .end-of .ensures .0)
-    (ap faultOf (t .enum-told .given .1)) (c .before .write-walk .ensures)
+    let t = c .before .before .before .before in
+    let k = t .before .before .before in
+    let e = k .before .before .before .before in
+    let w = k .walk-down .ensures in
+    let f = ap faultOf (t .enum-told .given .1) in
+    good-walk _ _ _ _ _ (with-end e (k .before .before .if1 .left)) _ _ (e .end-of .ensures .1) (w .ends) _ _ _ (e .end-of .ensures .0) f
+    (noted-under _ _ _ _ _ _ _ _ w f (c .before .write-heights .ensures))
 
-check-walk-requires : tie.Need-check-walk-requires
-check-walk-requires c κs = let e = c .before .before in (s e .pre .0, within e (c .if1 .left))
-
-write-walk-requires : tie.Need-write-walk-requires
-write-walk-requires c κs =
-    let t = c .before in
-    let k = t .before .before in
-    let e = k .before .before .before in
-    (s e .pre .0, (within e (k .before .if1 .left), (s e .pre .1 .fits, no-fault _ _ _ _ _ (t .enum-told .given .1) (k .check-walk .ensures))))
+walk-down-requires : tie.Need-walk-down-requires
+walk-down-requires c κs = let e = c .before .before .before in (s e .pre .0, (within e (c .before .if1 .left), omega arith))
 
 pub read-entries-spec : {M : Type 1} → statement M
 read-entries-spec =
@@ -83,11 +78,13 @@ read-entries-spec =
     (λ c κs. search needs)
     (λ c κs. search needs)
     returns
-    check-walk-requires
+    (λ c. search needs)
+    walk-down-requires
     (λ c. search needs)
     (λ c κs. search needs)
     returns-2
     (λ c. search needs)
-    write-walk-requires
+    (λ c. search needs)
+    (λ c κs. search needs)
     (λ c. search needs)
     returns-3)
