@@ -10,7 +10,7 @@ use lib.ListN.{length}
 use Rattle.lists.specs.Checks.{Check, first}
 use Rattle.lists.proofs.Checks.{first-none}
 use Rattle.paper.specs.Table.{cells}
-use Rattle.plate.specs.Refusal.{Told, done, refused, refusal, numberOf, Numbered, toldBy, decided}
+use Rattle.plate.specs.Refusal.{Told, done, refusal, numberOf, Numbered, toldBy, decided}
 use Rattle.plate.specs.Settings.{settingsChecks}
 use Rattle.plate.specs.declared.refusal.Refusal.{Refusal}
 use Rattle.plate.proofs.Decided.{refused-first, told-done, settings-good, after-refused, after-done}

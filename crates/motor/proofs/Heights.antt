@@ -1,7 +1,7 @@
 -- Motor heights over whole numbers. In range the product z·s is below 2 ^ 24, so that the f32 nearest to its eighth is its eighth, by the
 -- law of `Exact` at 2 ^ 3: document 01's height, and the only one. What a call tells says what it returned. Assumes nothing.
 use mathlib.Core.Path.{_≡_, refl, ap, _∙_, subst}
-use mathlib.Core.Bool.{Bool, true, false, _||_}
+use mathlib.Core.Bool.{true, false}
 use Prim.Native.Nat.{ℕ, zero, suc, _*_, _^_, _≤_, _<_}
 use native.Mathlib.Nat.{mul-le-mul}
 use native.Mathlib.Omega.{arith}
@@ -12,7 +12,7 @@ use lib.Signed.{ltZ}
 use lib.Ieee.{Float, fin, binary32, round, fits}
 use lib.Ieee.Fits.{round-fits}
 use Rattle.lists.specs.Checks.{first}
-use Rattle.lists.proofs.Checks.{first-none}
+use Rattle.lists.proofs.Checks.{first-none, or-false}
 use Rattle.paper.specs.Motor.{negative, Times, MotorHeight}
 use Rattle.plate.specs.Refusal.{done}
 use Rattle.plate.proofs.Decided.{told-done}
@@ -48,16 +48,12 @@ module _ (s : ℕ) (z : ℤ) (some : 1 ≤ s) (few : s ≤ 8192) (low : ltZ z (n
   height-given = (over (z *ℤ pos s) 8, height-is)
 
 -- ---- and only there
-neither : (a b : Bool) → (a || b) ≡ false → (a ≡ false) × (b ≡ false)
-neither false b e = (refl, e)
-neither true b e = let n : _≡_ {A = ℕ} 0 1 = cc in absurd (omega arith)
-
 answered : (s : ℕ) (z : ℤ) (x : Float) → heightAnswer s z ≡ done x → (natAbs (z *ℤ pos s) < 2 ^ 24) × (over (z *ℤ pos s) 8 ≡ x)
 answered s z x e =
     let t = told-done (first (heightChecks s z)) (over (z *ℤ pos s) 8) x e in
     let quiet = first-none (heightChecks s z) .0 (t .0) in
-    let step = neither (ltb s 1) (ltb 8192 s) (quiet .0) in
-    let boundary = neither (ltZ z (negsuc 30)) (ltZ (pos 543) z) (quiet .1 .0) in
+    let step = or-false (ltb s 1) (ltb 8192 s) (quiet .0) in
+    let boundary = or-false (ltZ z (negsuc 30)) (ltZ (pos 543) z) (quiet .1 .0) in
     (product-small s z (ltb-false s 1 (step .0)) (ltb-false 8192 s (step .1)) (boundary .0) (boundary .1), t .1)
 
 -- ---- an answered height is document 01's

@@ -4,7 +4,6 @@ use mathlib.Core.Path.{_≡_, sym, ap, _∙_}
 use mathlib.Core.List.{List}
 use mathlib.Core.Option.{Option, none}
 use Prim.Native.Nat.{ℕ, _≤_, _<_}
-use native.Mathlib.Omega.{arith}
 use borrow.Author.Tests.{lt-ltb, le-ltb, ltb-false}
 use lib.ListN.{length}
 use Rattle.lists.specs.Checks.{Check, first}
@@ -22,8 +21,7 @@ use Rattle.plate.specs.declared.refusal.Answer.the-variants.{Refused}
 use Rattle.plate.specs.declared.settings.Settings.{Settings}
 use Rattle.table.specs.Cells.{firstOut}
 use Rattle.table.specs.Calls.{short, outCell, boundChecks, tableRest, tableChecks}
-use Rattle.table.proofs.Bounds.{within-small}
-use Rattle.table.proofs.Cells.{cells-sound}
+use Rattle.table.proofs.Bounds.{table-bounded}
 use Rattle.plan.specs.Plan.{Sheets, planRest, planned, Fills}
 use Rattle.plan.specs.Planning.{Ready}
 
@@ -75,9 +73,4 @@ module _ (N T c : ℕ) (table : List ℕ) (lent : Sheets) where
 -- a table that passes is ready to be planned
 pub ready : (s : Settings) → Sound s → (c : ℕ) (table : List ℕ) → s .cells ≤ length table → (c ≤ mostColumns) × (cells (s .height) (s .«set») ≤ firstOut (s .height) (s .«set») c table)
     → Ready s table
-ready s k c table room b = record {
-  sound = k;
-  size = room;
-  small = λ i l.
-      within-small (s .height) (s .«set») c table (omega (arith, k .greatest, k .thin, k .order)) (omega (arith, k .greatest, k .thick)) (b .0) (b .1) i (omega (arith, cells-sound k));
-}
+ready s k c table room b = record { sound = k; size = room; small = table-bounded k c table (b .0) (b .1) }

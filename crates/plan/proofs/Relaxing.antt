@@ -9,7 +9,7 @@ use mathlib.Core.Option.{Option, none, some}
 use native.Mathlib.Nat.{le-div-iff-mul-le, mul-le-mul-left, mul-le-mul-right}
 use native.Mathlib.Decide.{decLt}
 use native.Mathlib.Omega.{arith}
-use lib.ListN.{length, getD}
+use lib.ListN.{getD}
 use Rattle.lists.specs.Best.{Best, value, place}
 use Rattle.lists.proofs.Spans.{span-within}
 use Rattle.paper.specs.Sheets.{missing}

@@ -35,7 +35,7 @@ module _ (s : Settings) (bound : ℕ) (table : List ℕ) (ready : Ready s table)
       let r = ready .sound in
       let row = h - t + s .tmax - 33 in
       let i = cell-in r row (omega (arith, r .rows-are, r .low, l .thick, l .above, r .thin, r .order)) (t - 1) (omega (arith, l .thick, l .thin, r .greatest)) in
-      omega (arith, ready .small (row * s .tmax + (t - 1)) i, cell-read (s .«set») (s .tmax) table row (h - t) t (r .greatest) refl)
+      omega (arith, ready .small .are (row * s .tmax + (t - 1)) i, cell-read (s .«set») (s .tmax) table row (h - t) t (r .greatest) refl)
 
   -- a permitted thickness is one from tmin to tmax
   pub layer-of : (h t : ℕ) → t ≤ h → p .may (h - t) t ≡ true → Layer p h t

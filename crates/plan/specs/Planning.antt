@@ -1,9 +1,9 @@
 -- What a plan fills over a table: the rules that the table's cells give, the two sheets, and the list. Assumes nothing.
-use Prim.Native.Nat.{ℕ, zero, suc, _+_, _≤_, _<_}
+use Prim.Native.Nat.{ℕ, zero, suc, _+_, _≤_}
 use mathlib.Core.Bool.{cond, _&&_}
 use mathlib.Core.List.{List}
 use lib.Dec.{leb, ltb}
-use lib.ListN.{length, getD}
+use lib.ListN.{length}
 use Rattle.lists.specs.Best.{Best, nothing, found, bestOf}
 use Rattle.lists.specs.Rewrite.{rewritten}
 use Rattle.paper.specs.Sequence.{M}
@@ -15,6 +15,7 @@ use Rattle.sequence.specs.Least.{via, least, leastOf}
 use Rattle.sequence.specs.Rules.{rules}
 use Rattle.sequence.specs.Sheets.{mark, errorEntry, thicknessEntry}
 use Rattle.table.specs.Cells.{cellFrom}
+use Rattle.table.specs.Limits.{Bounded}
 
 -- the rules that a table is planned by
 unfoldable pub planRules : ℕ → ℕ → ℕ → List ℕ → Rules
@@ -39,4 +40,4 @@ plannedList N T p old = rewritten (λ i x. mark (leastOf p (i + 1))) (M N T) old
 pub record Ready (s : Settings) (table : List ℕ) : Type 0 where
   pub sound : Sound s
   pub size : s .cells ≤ length table
-  pub small : (i : ℕ) → i < s .cells → getD table i 0 ≤ 16_000_000
+  pub small : Bounded (s .cells) table

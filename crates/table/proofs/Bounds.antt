@@ -34,7 +34,7 @@ module _ (N T c : ℕ) (table : List ℕ) where
   all-within h i l = ltb-false (limit T c (thicknessAt T i)) (getD table i 0) (lowest-before (outOfBounds T c table) (cells N T) i (omega arith))
 
   module _ (some : 1 ≤ tmax T) (few : tmax T ≤ 32) where
-    pub within-small : c ≤ 1_000_000 → cells N T ≤ firstOut N T c table → (i : ℕ) → i < cells N T → getD table i 0 ≤ 16_000_000
+    within-small : c ≤ 1_000_000 → cells N T ≤ firstOut N T c table → (i : ℕ) → i < cells N T → getD table i 0 ≤ 16_000_000
     within-small u h i l =
         let a = all-within h i l in
         let b = limit-le T c (thicknessAt T i) u (let t = thickness-le T i some in omega arith) in
@@ -48,7 +48,7 @@ module _ (N T c : ℕ) (table : List ℕ) where
 
 -- where no cell is out of bounds, none is above the greatest limit: one table's, and those of two that passed 6
 module _ {s : Settings} (k : Sound s) where
-  table-bounded : (c : ℕ) (table : List ℕ) → c ≤ 1_000_000 → cells (s .height) (s .«set») ≤ firstOut (s .height) (s .«set») c table → Bounded (s .cells) table
+  pub table-bounded : (c : ℕ) (table : List ℕ) → c ≤ 1_000_000 → cells (s .height) (s .«set») ≤ firstOut (s .height) (s .«set») c table → Bounded (s .cells) table
   table-bounded c table u h = record {
     are = λ i l.
         within-small (s .height) (s .«set») c table (omega (arith, k .greatest, k .thin, k .order)) (omega (arith, k .greatest, k .thick)) u h i (omega (arith, cells-sound k));

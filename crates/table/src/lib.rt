@@ -1,6 +1,7 @@
 // The error table of a plate: clear it, add a column, join a second table into it, take one off.
 ghost use mathlib.Core.Path.{_≡_};
-ghost use mathlib.Core.Bool.{false};
+ghost use mathlib.Core.Bool.{false, _||_};
+ghost use lib.Dec.{ltb};
 ghost use Prim.Native.Nat.{ℕ, _+_, _-_, _*_, _<_, _≤_};
 ghost use lib.ListN.{length, getD};
 ghost use Rattle.lists.specs.Checks.{first};
@@ -82,26 +83,19 @@ fn limits_of(set: u32, columns: u32) -> [u32; 32]
     limits
 }
 
-// 1 where a cell is above its limit, and 0 elsewhere.
-fn exceeds(limit: u32, cell: u32) -> u32
-    ensures { λ r. ⌜ (r ≤ 1) × (r ≡ 0 → cell ≤ limit) ⌝ }
-{
-    if limit < cell { 1 } else { 0 }
-}
-
-// How many cells of two rows are above their limits. The loop has no way out, so that it is quick where there is none, as there mostly is.
-fn count_above(table: &[u32], limits: &[u32; 32], base: usize, next: usize, width: usize) -> u32
+// Whether a cell of two rows is above its limit. The loop has no way out, so that it is quick where there is none, as there mostly is.
+fn any_above(table: &[u32], limits: &[u32; 32], base: usize, next: usize, width: usize) -> bool
     requires { ⌜ (width ≤ 32) × ((base + width ≤ length (now table)) × (next + width ≤ length (now table))) ⌝ }
-    ensures { λ r. ⌜ (r ≤ 64) × (r ≡ 0 → Within (now (limits .entry)) (now (table .entry)) base width × Within (now (limits .entry)) (now (table .entry)) next width) ⌝ }
+    ensures { λ r. ⌜ (r ≡ false → Within (now (limits .entry)) (now (table .entry)) base width × Within (now (limits .entry)) (now (table .entry)) next width) ⌝ }
 {
-    let mut count: u32 = 0;
+    let mut found = false;
     let mut j: usize = 0;
     while j < width {
         let limit = limits[j];
-        count += exceeds(limit, table[base + j]) + exceeds(limit, table[next + j]);
+        found = found | (limit < table[base + j]) | (limit < table[next + j]);
         j += 1;
     }
-    count
+    found
 }
 
 // The first cell of the row that is looked through beside a row: the next row's, or its own where it is the last.
@@ -117,21 +111,21 @@ fn partner_of(s: Settings, row: usize) -> usize
     base
 }
 
-// How many cells of all rows are above their limits, where a last row that has no partner counts twice.
-fn count_all_above(table: &[u32], limits: &[u32; 32], s: Settings) -> u32
+// Whether a cell of any row is above its limit, two rows at a time.
+fn any_out(table: &[u32], limits: &[u32; 32], s: Settings) -> bool
     requires { ⌜ Sound s ⌝ }
     requires { ⌜ s .cells ≤ length (now table) ⌝ }
-    ensures { λ r. ⌜ (r ≡ 0 → (row : ℕ) → row < s .rows → Within (now (limits .entry)) (now (table .entry)) (row * s .tmax) (s .tmax)) ⌝ }
+    ensures { λ r. ⌜ (r ≡ false → (row : ℕ) → row < s .rows → Within (now (limits .entry)) (now (table .entry)) (row * s .tmax) (s .tmax)) ⌝ }
 {
-    let mut count: u32 = 0;
+    let mut found = false;
     let mut row: usize = 0;
     while row < s.rows {
         let base = row * s.tmax;
         let next = partner_of(s, row);
-        count += count_above(table, limits, base, next, s.tmax);
+        found = found | any_above(table, limits, base, next, s.tmax);
         row += 2;
     }
-    count
+    found
 }
 
 // The first cell of a row that is above its limit, or the row's width, cell by cell.
@@ -149,14 +143,14 @@ fn search_above(table: &[u32], limits: &[u32; 32], base: usize, width: usize) ->
     j
 }
 
-// The lowest cell out of bounds for so many columns, or the number of cells. Mostly there is none, which counting tells sooner than a search.
+// The lowest cell out of bounds for so many columns, or the number of cells. Mostly there is none, which `any_out` tells sooner than a search.
 fn first_out(table: &[u32], s: Settings, columns: u32) -> usize
     requires { ⌜ Sound s ⌝ }
     requires { ⌜ (columns ≤ 1000000) × (s .cells ≤ length (now table)) ⌝ }
     ensures { λ r. ⌜ r ≡ firstOut (s .height) (s .«set») columns (now (table .entry)) ⌝ }
 {
     let limits = limits_of(s.set, columns);
-    if count_all_above(table, &limits, s) == 0 {
+    if !any_out(table, &limits, s) {
         return s.cells;
     }
     let mut row: usize = 0;
@@ -171,27 +165,27 @@ fn first_out(table: &[u32], s: Settings, columns: u32) -> usize
     s.cells
 }
 
-// 1 where a difference is negative or above its limit, and 0 elsewhere: a negative one wraps to beyond every limit.
-fn parts(limit: u32, cell: u32, other: u32) -> u32
+// Whether a difference is negative or above its limit: a negative one wraps to beyond every limit.
+fn is_apart(limit: u32, cell: u32, other: u32) -> bool
     requires { ⌜ (limit ≤ 16000000) × (other ≤ 16000000) ⌝ }
-    ensures { λ r. ⌜ (r ≤ 1) × (r ≡ 0 → (other ≤ cell) × (cell - other ≤ limit)) ⌝ }
+    ensures { λ r. ⌜ r ≡ (ltb cell other || ltb limit (cell - other)) ⌝ }
 {
-    exceeds(limit, std::num::wrapping_sub_u32(cell, other))
+    limit < std::num::wrapping_sub_u32(cell, other)
 }
 
-// How many differences of a row are negative or above their limits.
-fn count_apart(table: &[u32], other: &[u32], limits: &[u32; 32], base: usize, width: usize) -> u32
+// Whether a difference of a row is negative or above its limit.
+fn any_apart(table: &[u32], other: &[u32], limits: &[u32; 32], base: usize, width: usize) -> bool
     requires { ⌜ (width ≤ 32) × ((base + width ≤ length (now table)) × (base + width ≤ length (now other))) ⌝ }
     requires { ⌜ Bounded 32 (now limits) × Bounded (base + width) (now other) ⌝ }
-    ensures { λ r. ⌜ (r ≡ 0 → (j : ℕ) → j < width → apart (now (limits .entry)) (now (table .entry)) (now (other .entry)) base j ≡ false) ⌝ }
+    ensures { λ r. ⌜ (r ≡ false → (j : ℕ) → j < width → apart (now (limits .entry)) (now (table .entry)) (now (other .entry)) base j ≡ false) ⌝ }
 {
-    let mut count: u32 = 0;
+    let mut found = false;
     let mut j: usize = 0;
     while j < width {
-        count += parts(limits[j], table[base + j], other[base + j]);
+        found = found | is_apart(limits[j], table[base + j], other[base + j]);
         j += 1;
     }
-    count
+    found
 }
 
 // The first cell of a row where the difference of two tables is negative or above its limit, or the row's width, cell by cell.
@@ -226,7 +220,7 @@ fn apart_row(table: &[u32], other: &[u32], limits: &[u32; 32], base: usize, widt
     requires { ⌜ Bounded 32 (now limits) × Bounded (base + width) (now other) ⌝ }
     ensures { λ r. ⌜ r ≡ lowest (apart (now (limits .entry)) (now (table .entry)) (now (other .entry)) base) width ⌝ }
 {
-    if count_apart(table, other, limits, base, width) == 0 {
+    if !any_apart(table, other, limits, base, width) {
         return width;
     }
     search_apart(table, other, limits, base, width)

@@ -1,5 +1,5 @@
 -- `put_few` meets its contract. The loop's invariant: the layer is put on the sequences of m counts. Assumes nothing.
-use Prim.Native.Nat.{_-_, _≤_, _+_}
+use Prim.Native.Nat.{_-_, _≤_}
 use native.Mathlib.Omega.{arith}
 use Rattle.plan.specs.Putting.{PutOn}
 use Rattle.plan.proofs.Putting.{put-none, put-more, put-as, room-part, room-rest}

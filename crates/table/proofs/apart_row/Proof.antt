@@ -1,6 +1,7 @@
--- `apart_row` meets its contract: where nothing is counted the search would find nothing. Assumes nothing.
+-- `apart_row` meets its contract: where nothing is apart the search would find nothing. Assumes nothing.
 use mathlib.Core.Path.{sym}
 use borrow.Author.Needs.{needs}
+use borrow.Author.Tests.{not-true}
 use Rattle.lists.proofs.Search.{lowest-none}
 use Rattle.table.proofs.apart_row.Statement.{statement}
 use Rattle.table.proofs.apart_row.Tie as tie
@@ -10,6 +11,6 @@ apart-row-spec =
     tie.close
     (tie.spec
     (λ c κs. c .before .before .pre)
-    (λ c. sym (lowest-none _ _ (c .before .count-apart .ensures (c .if1 .taken))))
+    (λ c. sym (lowest-none _ _ (c .before .any-apart .ensures (not-true _ (c .if1 .taken)))))
     (λ c κs. search needs)
     (λ c. c .search-apart .ensures))

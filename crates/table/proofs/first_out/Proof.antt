@@ -1,4 +1,4 @@
--- `first_out` meets its contract. Where nothing is counted no row has a cell above its limit, and the search would find nothing. The search
+-- `first_out` meets its contract. Where `any_out` finds nothing no row has a cell above its limit, and the search would find nothing. The search
 -- goes by rows, against the limits, which for a row's cells is the same test; its loop's invariant: no cell of the rows before is out of
 -- bounds. Assumes nothing.
 use mathlib.Core.Path.{_≡_}
@@ -6,6 +6,7 @@ use mathlib.Core.Bool.{false}
 use Prim.Native.Nat.{ℕ, _-_, _*_, _≤_, _<_}
 use native.Mathlib.Omega.{arith}
 use borrow.Author.Needs.{needs}
+use borrow.Author.Tests.{not-true}
 use Rattle.lists.proofs.Search.{row-missed, row-found, missed}
 use Rattle.table.specs.Cells.{outOfBounds, firstOut}
 use Rattle.table.specs.Limits.{Limits}
@@ -25,7 +26,7 @@ unfolding firstOut
 returns c =
     let k = c .before .before .before .before .before .pre .0 in
     missed _ _ _ (omega (arith, cells-sound k)) (omega (arith, cells-sound k))
-    (rows-within k _ _ _ (c .before .before .before .limits-of .ensures) (c .before .count-all-above .ensures (c .if1 .taken)))
+    (rows-within k _ _ _ (c .before .before .before .limits-of .ensures) (c .before .any-out .ensures (not-true _ (c .if1 .taken))))
 
 returns-2 : tie.Need-returns-2 Inv-loop μ-loop
 unfolding firstOut
