@@ -1,6 +1,6 @@
 // Times the proved library beside quick Rust in one process: in each round every contender runs once, in turning order, and the medians over
-// the rounds are set side by side. Each has buffers of its own, touched before; sheets still hold the plan before and are not cleared, a
-// table to be added to is cleared outside the clock. What the contenders leave is compared before the clock starts.
+// the rounds are set side by side. All work in the same buffers, since where a buffer lies can cost as much as what is compared; sheets
+// still hold the plan before and are not cleared, a table is set back outside the clock. What each leaves is compared before the clock starts.
 
 use bench::library;
 use bench::make::{self, Table};
@@ -19,25 +19,25 @@ const TWO_AND_THREE: u32 = 6;
 
 // ---- Timing ----
 
-/// Runs once, and says how long the part within the clock took.
-type Contender = Box<dyn FnMut() -> Duration>;
+/// Runs once over the buffers that all share, and says how long the part within the clock took.
+type Contender<'a, B> = Box<dyn Fn(&mut B) -> Duration + 'a>;
 
 /// Nanoseconds of each contender in each round.
 struct Times {
     rounds: Vec<Vec<f64>>,
 }
 
-fn time(rounds: usize, mut contenders: Vec<Contender>) -> Times {
+fn time<B>(rounds: usize, buffers: &mut B, contenders: &[Contender<B>]) -> Times {
     let number = contenders.len();
-    contenders.iter_mut().for_each(|contender| {
-        contender();
+    contenders.iter().for_each(|contender| {
+        contender(buffers);
     });
     let mut times = Times { rounds: Vec::new() };
     for round in 0..rounds {
         let mut row = vec![0.0; number];
         for turn in 0..number {
             let i = (round + turn) % number;
-            row[i] = contenders[i]().as_nanos() as f64;
+            row[i] = contenders[i](buffers).as_nanos() as f64;
         }
         times.rounds.push(row);
     }
@@ -95,31 +95,39 @@ fn plan_into(planner: Planner, plate: Plate, table: &Table, sheets: &mut make::S
     planner(&table.cells, plate, table.columns, lent)
 }
 
-fn planning_contender(planner: Planner, plate: Plate, table: &Table, expected: &make::Sheets, times: u32) -> Contender {
-    let table = table.clone();
-    let mut sheets = make::Sheets {
-        errors: vec![1; plate.entries()],
-        thicknesses: vec![1; plate.entries()],
-        list: vec![1; plate.counts()],
-    };
-    plan_into(planner, plate, &table, &mut sheets);
-    assert!(sheets.errors == expected.errors && sheets.thicknesses == expected.thicknesses);
-    assert!(sheets.list == expected.list);
-    Box::new(move || {
-        clocked(|| {
-            for _ in 0..times {
-                black_box(plan_into(planner, plate, black_box(&table), &mut sheets));
-            }
-        })
-    })
+/// What each planner leaves in sheets that held something else.
+fn compare_planners(plate: Plate, table: &Table, sheets: &mut make::Sheets) {
+    let expected = make::sheets(plate, table, u32::MAX);
+    for planner in PLANNERS {
+        sheets.errors.fill(1);
+        sheets.thicknesses.fill(1);
+        sheets.list.fill(1);
+        plan_into(planner, plate, table, sheets);
+        assert!(sheets.errors == expected.errors && sheets.thicknesses == expected.thicknesses);
+        assert!(sheets.list == expected.list);
+    }
 }
 
 fn planning(rounds: usize, name: &str, height: u32, set: u32, times: u32) {
     let plate = Plate::new(height, set).expect("allowed");
     let table = some_table(plate, 200);
-    let expected = make::sheets(plate, &table, u32::MAX);
-    let contender = |planner| planning_contender(planner, plate, &table, &expected, times);
-    let taken = time(rounds, PLANNERS.map(contender).into());
+    let mut sheets = make::Sheets {
+        errors: vec![1; plate.entries()],
+        thicknesses: vec![1; plate.entries()],
+        list: vec![1; plate.counts()],
+    };
+    compare_planners(plate, &table, &mut sheets);
+    let contender = |planner: Planner| -> Contender<make::Sheets> {
+        let table = &table;
+        Box::new(move |sheets| {
+            clocked(|| {
+                for _ in 0..times {
+                    black_box(plan_into(planner, plate, black_box(table), sheets));
+                }
+            })
+        })
+    };
+    let taken = time(rounds, &mut sheets, &PLANNERS.map(contender));
     let heights = (plate.highest() - plate.lowest() + 1) as f64;
     let steps = heights * plate.counts() as f64 * f64::from(plate.set.count_ones()) * f64::from(times);
     let each: Vec<String> = (0..4).map(|i| format!("{:.2}", taken.of(i) / steps)).collect();
@@ -161,19 +169,22 @@ fn adding(rounds: usize, boundaries: usize) {
     let plate = Plate::new(512, ALL).expect("allowed");
     let columns = columns_of(plate, boundaries);
     let expected = make::tabulate(plate, &columns).cells;
-    let contender = |adder: Adder| -> Contender {
-        let columns = columns.clone();
-        let mut cells = vec![0; plate.cells()];
+    let mut cells = vec![0; plate.cells()];
+    for adder in ADDERS {
+        cells.fill(0);
         add_all(adder, plate, &mut cells, &columns);
         assert!(cells == expected);
-        Box::new(move || {
+    }
+    let contender = |adder: Adder| -> Contender<Vec<u32>> {
+        let columns = &columns;
+        Box::new(move |cells| {
             cells.fill(0);
             clocked(|| {
-                black_box(add_all(adder, plate, &mut cells, black_box(&columns)));
+                black_box(add_all(adder, plate, cells, black_box(columns)));
             })
         })
     };
-    let taken = time(rounds, ADDERS.map(contender).into());
+    let taken = time(rounds, &mut cells, &ADDERS.map(contender));
     let each: Vec<String> = (0..3).map(|i| format!("{:.2}", taken.of(i) / 1_000_000.0)).collect();
     println!("| {boundaries} | {} | {} | {} |", each.join(" | "), taken.ratio(1), taken.ratio(2));
 }
@@ -216,11 +227,10 @@ fn row(name: &str, unit: f64, taken: &Times) {
 fn joining(rounds: usize, name: &str, joiners: [Joiner; 2], first: &Table, expected: &Table) {
     let plate = Plate::new(512, ALL).expect("allowed");
     let second = some_table(plate, 100);
-    let contender = |joiner: Joiner| -> Contender {
-        let (first, second, expected) = (first.clone(), second.clone(), expected.clone());
-        let mut table = first.clone();
-        Box::new(move || {
-            table.clone_from(&first);
+    let contender = |joiner: Joiner| -> Contender<Table> {
+        let second = &second;
+        Box::new(move |table| {
+            table.clone_from(first);
             let taken = clocked(|| {
                 for _ in 0..JOINS {
                     let other = Second { cells: &second.cells, height: 512, set: ALL, columns: second.columns };
@@ -231,7 +241,8 @@ fn joining(rounds: usize, name: &str, joiners: [Joiner; 2], first: &Table, expec
             taken
         })
     };
-    row(name, 1_000.0 * f64::from(JOINS), &time(rounds, joiners.map(contender).into()));
+    let mut table = first.clone();
+    row(name, 1_000.0 * f64::from(JOINS), &time(rounds, &mut table, &joiners.map(contender)));
 }
 
 fn joining_and_taking_off(rounds: usize) {
@@ -261,21 +272,24 @@ fn read_all(reader: Reader, plate: Plate, sheets: &make::Sheets, out: &mut [i32]
 fn reading_back(rounds: usize, name: &str, height: u32, set: u32, times: u32) {
     let plate = Plate::new(height, set).expect("allowed");
     let table = some_table(plate, 200);
-    let contender = |reader: Reader| -> Contender {
-        let sheets = make::sheets(plate, &table, u32::MAX);
-        let mut out = vec![0; plate.counts() + 1];
-        let sum: u64 = sheets.list.iter().filter(|&&error| error < u64::MAX).sum();
+    let sheets = make::sheets(plate, &table, u32::MAX);
+    let mut out = vec![0; plate.counts() + 1];
+    let sum: u64 = sheets.list.iter().filter(|&&error| error < u64::MAX).sum();
+    for reader in READERS {
         assert_eq!(read_all(reader, plate, &sheets, &mut out), sum);
-        Box::new(move || {
+    }
+    let contender = |reader: Reader| -> Contender<Vec<i32>> {
+        let sheets = &sheets;
+        Box::new(move |out| {
             clocked(|| {
                 for _ in 0..times {
-                    black_box(read_all(reader, plate, black_box(&sheets), &mut out));
+                    black_box(read_all(reader, plate, black_box(sheets), out));
                 }
             })
         })
     };
     let unit = 1_000.0 * f64::from(times);
-    row(name, unit, &time(rounds, READERS.map(contender).into()));
+    row(name, unit, &time(rounds, &mut out, &READERS.map(contender)));
 }
 
 // ---- The tables ----

@@ -83,14 +83,26 @@ fn limits_of(set: u32, columns: u32) -> [u32; 32]
     limits
 }
 
+// The width of a row as it is. That it is at most 32 is asked for the compiler alone, which then unrolls a loop over the row.
+fn row_end(width: usize) -> usize
+    requires { ⌜ width ≤ 32 ⌝ }
+    ensures { λ r. ⌜ r ≡ width ⌝ }
+{
+    if 32 < width {
+        return 32;
+    }
+    width
+}
+
 // Whether a cell of two rows is above its limit. The loop has no way out, so that it is quick where there is none, as there mostly is.
 fn any_above(table: &[u32], limits: &[u32; 32], base: usize, next: usize, width: usize) -> bool
     requires { ⌜ (width ≤ 32) × ((base + width ≤ length (now table)) × (next + width ≤ length (now table))) ⌝ }
     ensures { λ r. ⌜ (r ≡ false → Within (now (limits .entry)) (now (table .entry)) base width × Within (now (limits .entry)) (now (table .entry)) next width) ⌝ }
 {
+    let end = row_end(width);
     let mut found = false;
     let mut j: usize = 0;
-    while j < width {
+    while j < end {
         let limit = limits[j];
         found = found | (limit < table[base + j]) | (limit < table[next + j]);
         j += 1;
@@ -179,9 +191,10 @@ fn any_apart(table: &[u32], other: &[u32], limits: &[u32; 32], base: usize, widt
     requires { ⌜ Bounded 32 (now limits) × Bounded (base + width) (now other) ⌝ }
     ensures { λ r. ⌜ (r ≡ false → (j : ℕ) → j < width → apart (now (limits .entry)) (now (table .entry)) (now (other .entry)) base j ≡ false) ⌝ }
 {
+    let end = row_end(width);
     let mut found = false;
     let mut j: usize = 0;
-    while j < width {
+    while j < end {
         found = found | is_apart(limits[j], table[base + j], other[base + j]);
         j += 1;
     }

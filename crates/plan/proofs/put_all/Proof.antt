@@ -1,6 +1,7 @@
--- `put_all` meets its contract. The loop's invariant: the layer is put on the sequences of m counts. What four do not fill is left to
--- `put_few`. Assumes nothing.
-use Prim.Native.Nat.{_-_, _≤_, _+_}
+-- `put_all` meets its contract. The loop's invariant: the layer is put on the sequences of m counts, and m goes by eights. What remains of n
+-- is left to `put_few`. Assumes nothing.
+use Prim.Native.Nat.{_+_, _-_, _%_, _≤_}
+use mathlib.Core.Path.{_≡_}
 use native.Mathlib.Omega.{arith}
 use Rattle.plan.specs.Putting.{PutOn, Room}
 use Rattle.plan.proofs.Putting.{put-none, put-more, put-as, room-part, room-rest}
@@ -8,10 +9,11 @@ use Rattle.plan.proofs.put_all.Statement.{statement}
 use Rattle.plan.proofs.put_all.Tie as tie
 
 abbrev Inv-loop : tie.InvT-loop
-Inv-loop errors₀ thicknesses₀ from to cell t n m₀ errors thicknesses m = (m ≤ n) × PutOn from to cell t m errors₀ thicknesses₀ errors thicknesses
+Inv-loop errors₀ thicknesses₀ from to cell t n whole m₀ errors thicknesses m =
+    (m ≤ n) × PutOn from to cell t m errors₀ thicknesses₀ errors thicknesses × (m % 8 ≡ 0)
 
 abbrev μ-loop : tie.MeasureT-loop
-μ-loop errors₀ thicknesses₀ from to cell t n m₀ errors thicknesses m = n - m
+μ-loop errors₀ thicknesses₀ from to cell t n whole m₀ errors thicknesses m = n - m
 
 module _ (l : tie.At-loop Inv-loop μ-loop) where
   abbrev s : tie.Start Inv-loop μ-loop
@@ -24,7 +26,7 @@ loop-again : tie.Need-loop-again Inv-loop μ-loop
 loop-again c =
     let p = c .before .before .before .before in
     let l = p .before .before .before .before in
-    (omega arith, put-more _ 4 (l .loop .inv .1) (p .put-four .ensures) (omega (arith, s l .pre .1 .apart)))
+    (omega (arith, l .loop .inv .2), put-more _ 8 (l .loop .inv .1) (p .put-eight .ensures) (omega (arith, s l .pre .1 .apart, l .loop .inv .2)), omega (arith, l .loop .inv .2))
 
 whole : tie.Need-returns Inv-loop μ-loop
 whole c =
@@ -38,16 +40,16 @@ put-all-spec =
     (tie.spec
     Inv-loop
     μ-loop
-    (λ c. (omega arith, put-none))
-    (λ c. omega (arith, s c .pre .1 .errors-long))
+    (λ c. omega arith)
+    (λ c. (omega arith, put-none, omega arith))
     (λ c. let l = c .before .before .before in omega (arith, rest l .apart, rest l .errors-long))
     (λ c. let l = c .before .before .before in omega (arith, rest l .errors-long))
-    (λ c κs. let l = c .before .before .before in (s l .pre .0, room-part _ 4 (rest l) (omega arith)))
+    (λ c κs. let l = c .before .before .before in (s l .pre .0, room-part _ 8 (rest l) (omega (arith, l .loop .inv .2))))
     (λ c. omega arith)
     (λ c. omega arith)
     loop-again
-    (λ c. let l = c .before .before .before in omega (arith, rest l .apart, rest l .errors-long))
-    (λ c. let l = c .before .before .before in omega (arith, rest l .errors-long))
+    (λ c. let l = c .before .before .before in omega (arith, rest l .apart, rest l .errors-long, l .loop .inv .0))
+    (λ c. let l = c .before .before .before in omega (arith, rest l .errors-long, l .loop .inv .0))
     (λ c. omega (arith, c .before .before .before .loop .inv .0))
     (λ c κs. let l = c .before .before .before in (s l .pre .0, rest l))
     (λ c. whole c .errors-are .long)

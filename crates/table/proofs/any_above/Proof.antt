@@ -12,21 +12,22 @@ use Rattle.table.proofs.any_above.Statement.{statement}
 use Rattle.table.proofs.any_above.Tie as tie
 
 abbrev Inv-loop : tie.InvT-loop
-Inv-loop table limits base next width found₀ j₀ found j =
-    (j ≤ width) × (found ≡ false → Within limits table base j × Within limits table next j)
+Inv-loop table limits base next width end found₀ j₀ found j =
+    (j ≤ width) × (end ≡ width) × (found ≡ false → Within limits table base j × Within limits table next j)
 
 abbrev μ-loop : tie.MeasureT-loop
-μ-loop table limits base next width found₀ j₀ found j = width - j
+μ-loop table limits base next width end found₀ j₀ found j = width - j
 
 loop-again : tie.Need-loop-again Inv-loop μ-loop
 unfolding above
 loop-again c =
     let l = c .before .before .before .before .loop .inv in (
-      omega arith,
+      omega (arith, l .1),
+      l .1,
       λ z.
           let e = or-false _ _ z in
           let f = or-false _ _ (e .0) in
-          let w = l .1 (f .0) in
+          let w = l .2 (f .0) in
           (below-more _ _ (w .0) (f .1), below-more _ _ (w .1) (e .1)),
     )
 
@@ -36,7 +37,8 @@ any-above-spec =
     (tie.spec
     Inv-loop
     μ-loop
-    (λ c. (omega arith, λ z. (below-none _, below-none _)))
+    (λ c κs. search needs)
+    (λ c. (omega arith, c .row-end .ensures, λ z. (below-none _, below-none _)))
     (λ c. search needs)
     (λ c. search needs)
     (λ c. search needs)
@@ -48,4 +50,4 @@ any-above-spec =
     (λ c. search needs)
     (λ c. search needs)
     loop-again
-    (λ c. λ z. let w = c .before .loop .inv .1 z in (λ j u. w .0 j (omega arith), λ j u. w .1 j (omega arith))))
+    (λ c. λ z. let w = c .before .loop .inv .2 z in (λ j u. w .0 j (omega arith), λ j u. w .1 j (omega arith))))

@@ -12,18 +12,19 @@ use Rattle.table.proofs.any_apart.Statement.{statement}
 use Rattle.table.proofs.any_apart.Tie as tie
 
 abbrev Inv-loop : tie.InvT-loop
-Inv-loop table other limits base width found₀ j₀ found j =
-    (j ≤ width) × (found ≡ false → (k : ℕ) → k < j → apart limits table other base k ≡ false)
+Inv-loop table other limits base width end found₀ j₀ found j =
+    (j ≤ width) × (end ≡ width) × (found ≡ false → (k : ℕ) → k < j → apart limits table other base k ≡ false)
 
 abbrev μ-loop : tie.MeasureT-loop
-μ-loop table other limits base width found₀ j₀ found j = width - j
+μ-loop table other limits base width end found₀ j₀ found j = width - j
 
 loop-again : tie.Need-loop-again Inv-loop μ-loop
 unfolding apart
 loop-again c =
     let l = c .before .before .before .before .before .loop .inv in (
-      omega arith,
-      λ z. let e = or-false _ _ z in below-more _ _ (l .1 (e .0)) (sym (c .is-apart .ensures) ∙ e .1),
+      omega (arith, l .1),
+      l .1,
+      λ z. let e = or-false _ _ z in below-more _ _ (l .2 (e .0)) (sym (c .is-apart .ensures) ∙ e .1),
     )
 
 pub any-apart-spec : {M : Type 1} → statement M
@@ -32,7 +33,8 @@ any-apart-spec =
     (tie.spec
     Inv-loop
     μ-loop
-    (λ c. (omega arith, λ z. below-none _))
+    (λ c κs. search needs)
+    (λ c. (omega arith, c .row-end .ensures, λ z. below-none _))
     (λ c. search needs)
     (λ c. search needs)
     (λ c. search needs)
@@ -43,9 +45,9 @@ any-apart-spec =
     (λ c. search needs)
     (λ c κs.
     let l = c .before .before .before .before in
-    let b = l .before .before .before .pre .1 in
+    let b = l .before .before .before .before .pre .1 in
     (b .0 .are (l .loop .j) (omega arith), b .1 .are _ (omega arith)))
     (λ c. search needs)
     (λ c. search needs)
     loop-again
-    (λ c. λ z j l. c .before .loop .inv .1 z j (omega arith)))
+    (λ c. λ z j l. c .before .loop .inv .2 z j (omega arith)))
