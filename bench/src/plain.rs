@@ -55,7 +55,7 @@ impl Plate {
             Some(first) => first,
             None => return refuse(2, 0),
         };
-        let tmax = members.last().unwrap_or(tmin);
+        let tmax = members.next_back().unwrap_or(tmin);
         let height = i64::from(height);
         Ok(Plate { height, set, tmin, tmax })
     }
@@ -297,8 +297,8 @@ pub fn join_tables(table: &mut [u32], height: u32, set: u32, columns: u32, secon
     check_columns(sum)?;
     check_cells(plate, table, columns)?;
     check_cells(plate, second.cells, second.columns)?;
-    for i in 0..plate.cells() {
-        table[i] += second.cells[i];
+    for (cell, other) in table[..plate.cells()].iter_mut().zip(second.cells) {
+        *cell += other;
     }
     Ok(sum)
 }
@@ -316,8 +316,8 @@ pub fn take_off(table: &mut [u32], height: u32, set: u32, columns: u32, second: 
         difference < 0 || difference > i64::from(plate.limit(i, rest))
     };
     refuse_at(9, (0..plate.cells()).find(bad))?;
-    for i in 0..plate.cells() {
-        table[i] -= second.cells[i];
+    for (cell, other) in table[..plate.cells()].iter_mut().zip(second.cells) {
+        *cell -= other;
     }
     Ok(rest)
 }
@@ -549,7 +549,7 @@ fn record_at(input: &[u8], at: usize, settled: bool) -> Option<Record<'_>> {
     let kind = number(&left[2..4]) as u16;
     let (allowed_here, right_length) = match kind {
         1 => (!settled, length == 10),
-        2 => (settled, length % 2 == 0),
+        2 => (settled, length.is_multiple_of(2)),
         3 => (settled, length == 4),
         32768.. => (true, true),
         _ => (false, false),

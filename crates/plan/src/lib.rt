@@ -137,7 +137,7 @@ fn read_entries(
     if end.error == NONE {
         return refused(Reason::NoSequence, 0);
     }
-    let mut heights = [0u16; 576];
+    let mut heights = [0u16; 575];
     let walk = walk_down(thicknesses, s, n, end.top, &mut heights);
     if let Walk::Fault(layer) = walk {
         return refused(Reason::Unreadable, layer);

@@ -50,9 +50,9 @@ fn round(seed: u64, number: u64, tally: &mut Tally) -> Result<(), String> {
         let answer = named(call.name, seed, number, outcome)?;
         *tally.entry((i, answer)).or_default() += 1;
     }
-    if number % SESSION_EVERY == 0 {
+    if number.is_multiple_of(SESSION_EVERY) {
         let mut random = Random::new(seed, number * 100 + 99);
-        named("session", seed, number, session::session(&mut random, number % FULL_SESSION_EVERY == 0))?;
+        named("session", seed, number, session::session(&mut random, number.is_multiple_of(FULL_SESSION_EVERY)))?;
     }
     Ok(())
 }
