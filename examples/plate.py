@@ -45,6 +45,7 @@ def main():
     for n in range(1, plan.value + 1):
         sequence = (c.c_int32 * (n + 1))()
         read = library.shagorent_read_back(height, set_, *lent(errors), *lent(thicknesses), number(n), *lent(sequence))
+        assert read.number in (0, 11), (read.number, read.value)
         print(n, *((read.value, *sequence) if read.number == 0 else ("none",)))
 
 

@@ -1,7 +1,7 @@
 /* Shagorent: layer plans of least error for resin printers.
  *
  * Given the columns of a plate, it finds for every number of layers the sequence of layers with the least error, the fewest voxels wrongly
- * filled or left out. Every function of it is proved to keep what is said here, for any input.
+ * filled or left out. What each call answers and what it writes is proved, for any input.
  *
  * Link with libshagorent.a, which `rt staticlib shagorent` makes in target/staticlib.
  *
@@ -46,7 +46,7 @@ extern "C" {
 #define SHAGORENT_DONE 0u
 #define SHAGORENT_HEIGHT 1u          /* height outside 1 to 512; 0 */
 #define SHAGORENT_NO_THICKNESS 2u    /* no thickness allowed; 0 */
-#define SHAGORENT_SHORT_BUFFER 3u    /* a lent buffer shorter than stated; which, from 1, in the order of the parameters */
+#define SHAGORENT_SHORT_BUFFER 3u    /* a lent buffer shorter than stated; which, from 1, in the order of the parameters, a job's bytes not counted */
 #define SHAGORENT_BOUNDARY_COUNT 4u  /* an odd number of boundaries, or more than 64; the number */
 #define SHAGORENT_BOUNDARY 5u        /* a boundary above the height, or not above the one before; the first such index */
 #define SHAGORENT_CELL 6u            /* a cell out of bounds for the table's column count; the lowest such index */
@@ -69,7 +69,7 @@ typedef struct {
 
 typedef struct {
     uint32_t number;
-    uint32_t columns; /* the table's column count now */
+    uint32_t columns; /* the table's column count then; 0 where refused, and the table has the count that it had */
     uint64_t place;
 } shagorent_table_reply;
 
@@ -105,7 +105,8 @@ shagorent_reply shagorent_entries(uint32_t height, uint32_t set);
 /* The greatest count, M = (N + 2*tmax - 2) / tmin: the length of a list; a sequence of n layers has n + 1 boundaries. */
 shagorent_reply shagorent_counts(uint32_t height, uint32_t set);
 
-/* ---- Tables. The caller keeps a table's column count beside it. */
+/* ---- Tables. The caller keeps a table's column count beside it. A table has a cell for each start z from -(tmax-1) to N+tmax-2 and each
+ * thickness from 1 to tmax: the layer's error. Starts are outer and thicknesses inner; a cell of a thickness that is not allowed is 0. */
 
 /* All cells 0, count 0. Refusals 1, 2, 3. */
 shagorent_table_reply shagorent_clear_table(uint32_t *table, size_t table_length, uint32_t height, uint32_t set);
@@ -125,7 +126,11 @@ shagorent_table_reply shagorent_take_off(uint32_t *table, size_t table_length, u
                                          const uint32_t *other, size_t other_length, uint32_t other_height, uint32_t other_set,
                                          uint32_t other_columns);
 
-/* ---- Plans. */
+/* ---- Plans. A sequence of n layers is its n + 1 boundaries z0 < z1 < .. < zn. It is admissible if z0 is from -(tmax-1) to 0, zn is at least N
+ * and below N + tmax, every difference is an allowed thickness and every layer's error is at most the bound. A sheet has an entry for each
+ * height from -(tmax-1) to N+tmax-1 and each count from 0 to M, heights outer and counts inner: the least error of so many layers that
+ * end there, or SHAGORENT_NONE, and the thickness of the last of them, or 0. Of several with the least error the one is chosen that
+ * ends lowest, then the one with the thinnest last layer, the thinnest before it, and so on down. */
 
 /* Fills the error sheet, the thickness sheet and the list of the least errors of the counts 1 to M, for layers whose error is at most the
  * bound. Answers M. Refusals 1, 2, 3 (table, errors, thicknesses, list), 7, 6. */
@@ -138,14 +143,15 @@ shagorent_reply shagorent_plan(const uint32_t *table, size_t table_length, uint3
 shagorent_reply shagorent_read_back(uint32_t height, uint32_t set, const uint64_t *errors, size_t errors_length, const uint8_t *thicknesses,
                                     size_t thicknesses_length, uint32_t count, int32_t *out, size_t out_length);
 
-/* The error of a given sequence over a table. Refusals 1, 2, 3, 7, 6, 13. */
+/* The error of a given sequence over a table. Refusals 1, 2, 3, 7, 6, 13; the place of 13 is 0 for fewer than two boundaries or a start that is
+ * not admissible, k for a layer from boundary k-1 to k that is not, and the index of the last boundary for an end that is not. */
 shagorent_reply shagorent_recount(const uint32_t *table, size_t table_length, uint32_t height, uint32_t set, uint32_t columns, uint32_t bound,
                                   const int32_t *sequence, size_t sequence_length);
 
 /* ---- Pictures and motors. */
 
 /* Whether the layer from `start` of this thickness fills the column in its picture, and the column's share of the layer's error.
- * Refusals 1, 2, 4, 5, 13 (0: the start, 1: the thickness). */
+ * Refusals 1, 2, 4, 5, 13 (0: a start that is not one of the table's; 1: a thickness that is not allowed). */
 shagorent_picture_reply shagorent_picture(uint32_t height, uint32_t set, const uint16_t *column, size_t column_length, int32_t start,
                                           uint32_t thickness);
 
@@ -155,8 +161,14 @@ shagorent_height_reply shagorent_motor_height(uint32_t step, int32_t boundary);
 
 /* ---- Job files. */
 
-/* Reads a whole job file into a table. Answers what its settings ask for, and its column count. Refusals of the file, in its own order: 16, 1,
- * 2, 7, 4, 5, with 17 straight after 1 and 2 where a table or a sheet of its settings has more than `most` entries; then 3. */
+/* Reads a whole job file into a table, whose cells it replaces; SHAGORENT_MOST_CELLS are enough for any. Answers what the settings ask for, and
+ * the column count. Refusals of the file, in its own order: 16, 1, 2, 7, 4, 5, with 17 straight after 1 and 2 where a table or a sheet of
+ * its settings has more than `most` entries; then 3, at place 1. Whichever refusal of the file it is, its place is the first byte of the
+ * record at fault, and for bytes after the end record the first of them.
+ *
+ * A job file is records: the length of the body in two bytes, a kind in two, the body; every number has its low byte first. One of kind 1 comes
+ * first: the height (2 bytes), the set (4), the bound (4). Then columns, kind 2: the boundaries (2 each). Then one of kind 3: the number
+ * of columns (4); and then nothing. Kinds from 32768 on are remarks, anywhere before the end. */
 shagorent_job_reply shagorent_read_job(const uint8_t *input, size_t input_length, size_t most, uint32_t *table, size_t table_length);
 
 #ifdef __cplusplus

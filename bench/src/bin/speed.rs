@@ -1,10 +1,10 @@
 // Times the proved library beside quick Rust in one process: in each round every contender runs once, in turning order, and the medians over
 // the rounds are set side by side. All work in the same buffers, since where a buffer lies can cost as much as what is compared; sheets
-// still hold the plan before and are not cleared, a table is set back outside the clock. What each leaves is compared before the clock starts.
+// still hold the plan before and are not cleared, a table is set back outside the clock. What each leaves is compared outside the clock.
 
 use bench::library;
 use bench::make::{self, Table};
-use bench::plain::{Answer, Filled, Plate, Second, Sheets};
+use bench::plain::{self, Answer, Filled, Plate, Second, Sheets};
 use bench::quick::{self, Reach};
 use bench::random::Random;
 use std::hint::black_box;
@@ -269,15 +269,26 @@ fn read_all(reader: Reader, plate: Plate, sheets: &make::Sheets, out: &mut [i32]
     (1..=plate.counts()).fold(0, |sum, count| sum + reader(plate, filled, count as u32, out))
 }
 
+/// What each reader answers and leaves for each count, beside the plain one's.
+fn compare_readers(plate: Plate, sheets: &make::Sheets, out: &mut [i32]) {
+    let filled = Filled { errors: &sheets.errors, thicknesses: &sheets.thicknesses };
+    for count in 1..=plate.counts() as u32 {
+        let mut expected = vec![1; out.len()];
+        let answer = plain::read_back(plate.height as u32, plate.set, filled, count, &mut expected);
+        for reader in READERS {
+            out.fill(1);
+            let value = reader(plate, filled, count, out);
+            assert!(value == answer.as_ref().map_or(0, |&error| error) && *out == expected[..]);
+        }
+    }
+}
+
 fn reading_back(rounds: usize, name: &str, height: u32, set: u32, times: u32) {
     let plate = Plate::new(height, set).expect("allowed");
     let table = some_table(plate, 200);
     let sheets = make::sheets(plate, &table, u32::MAX);
     let mut out = vec![0; plate.counts() + 1];
-    let sum: u64 = sheets.list.iter().filter(|&&error| error < u64::MAX).sum();
-    for reader in READERS {
-        assert_eq!(read_all(reader, plate, &sheets, &mut out), sum);
-    }
+    compare_readers(plate, &sheets, &mut out);
     let contender = |reader: Reader| -> Contender<Vec<i32>> {
         let sheets = &sheets;
         Box::new(move |out| {

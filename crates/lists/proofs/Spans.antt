@@ -19,7 +19,7 @@ module _ {A : Type 0} {d : A} where
   span-none a g l = record { long = refl; inside = λ m h. absurd (omega arith); below = λ i h. refl; above = λ i h. refl }
 
   -- what a turn reads is what stood there at first
-  pub span-old : {a n : ℕ} {g : ℕ → A → A} {old new : List A} → Span d a n g old new → getD new (a + n) d ≡ getD old (a + n) d
+  span-old : {a n : ℕ} {g : ℕ → A → A} {old new : List A} → Span d a n g old new → getD new (a + n) d ≡ getD old (a + n) d
   span-old {a} {n} s = s .above (a + n) (omega arith)
 
   pub span-unread : {a n : ℕ} {g : ℕ → A → A} {old new : List A} → Span d a n g old new → (i : ℕ) → i ≡ a + n → getD new i d ≡ getD old i d

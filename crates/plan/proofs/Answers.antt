@@ -19,8 +19,8 @@ use Rattle.plate.specs.declared.settings.Made.the-variants.{Good, Bad}
 use Rattle.plate.specs.declared.settings.Settings.{Settings}
 use Rattle.plate.proofs.Decided.{settings-bad, settings-good}
 use Rattle.sequence.specs.Sheets.{entry, endOf, faultUnder, boundariesUnder}
-use Rattle.plan.specs.Reading.{isNothing, walkFault, entryChecks, roomChecks, readChecks, readAnswer, readOut}
-use Rattle.plan.specs.Walking.{leastEntry, readBoundaries, Answered}
+use Rattle.plan.specs.Reading.{isNothing, walkFault, entryChecks, roomChecks, readChecks, readAnswer, readOut, leastEntry, readBoundaries}
+use Rattle.plan.specs.Walking.{Answered}
 
 -- a refusal leaves the output as it was
 pub refuses : (checks : List (Check Numbered)) (N T : ℕ) (errors thicknesses : List ℕ) (n : ℕ) (answer : Told ℕ) (old : List ℤ) (number place : ℕ)

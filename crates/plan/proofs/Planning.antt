@@ -21,7 +21,7 @@ use Rattle.plate.specs.declared.refusal.Answer.the-variants.{Refused}
 use Rattle.plate.specs.declared.settings.Settings.{Settings}
 use Rattle.table.specs.Cells.{firstOut}
 use Rattle.table.specs.Calls.{short, outCell, boundChecks, tableRest, tableChecks}
-use Rattle.table.proofs.Bounds.{table-bounded}
+use Rattle.table.proofs.Bounds.{table-under}
 use Rattle.plan.specs.Plan.{Sheets, planRest, planned, Fills}
 use Rattle.plan.specs.Planning.{Ready}
 
@@ -73,4 +73,4 @@ module _ (N T c : ℕ) (table : List ℕ) (lent : Sheets) where
 -- a table that passes is ready to be planned
 pub ready : (s : Settings) → Sound s → (c : ℕ) (table : List ℕ) → s .cells ≤ length table → (c ≤ mostColumns) × (cells (s .height) (s .«set») ≤ firstOut (s .height) (s .«set») c table)
     → Ready s table
-ready s k c table room b = record { sound = k; size = room; small = table-bounded k c table (b .0) (b .1) }
+ready s k c table room b = record { sound = k; size = room; small = table-under k c table (b .0) (b .1) }

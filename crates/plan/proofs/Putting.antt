@@ -9,7 +9,7 @@ use lib.ListN.{length, getD, set}
 use Rattle.lists.proofs.Spans.{span-none, span-set, span-keep, span-as, span-more}
 use Rattle.sequence.specs.Least.{plus}
 use Rattle.sequence.specs.Sheets.{mark, unmark}
-use Rattle.plan.specs.Putting.{sumAt, errorOf, thicknessOf, PutOn, Room}
+use Rattle.plan.specs.Putting.{sumAt, errorOf, thicknessOf, PutOn, Placed}
 
 -- the better of two
 pub error-less : (sum error : ℕ) → sum < error → errorOf sum error ≡ sum
@@ -56,8 +56,8 @@ module _ {from to cell t : ℕ} {E F : List ℕ} where
   put-as {k} n r l u = let e : k ≡ n = omega arith in rw e at r
 
   -- what a part leaves room for
-  pub room-rest : {G H : List ℕ} (n k : ℕ) → Room from to n E F → PutOn from to cell t k E F G H → k ≤ n → Room (from + k) (to + k) (n - k) G H
-  room-rest {G} {H} n k r s l = record {
+  pub placed-rest : {G H : List ℕ} (n k : ℕ) → Placed from to n E F → PutOn from to cell t k E F G H → k ≤ n → Placed (from + k) (to + k) (n - k) G H
+  placed-rest {G} {H} n k r s l = record {
     apart = omega (arith, r .apart);
     errors-long = omega (arith, r .errors-long, s .errors-are .long);
     thicknesses-long = omega (arith, r .thicknesses-long, s .thicknesses-are .long);
@@ -70,8 +70,8 @@ module _ {from to cell t : ℕ} {E F : List ℕ} where
           ap (λ (i : ℕ). getD G i 0) e ∙ s .errors-are .below (from + (k + m)) (omega (arith, r .apart))
 
 -- the first counts of some
-pub room-part : {from to : ℕ} {E F : List ℕ} (n k : ℕ) → Room from to n E F → k ≤ n → Room from to k E F
-room-part n k r l = record {
+pub placed-part : {from to : ℕ} {E F : List ℕ} (n k : ℕ) → Placed from to n E F → k ≤ n → Placed from to k E F
+placed-part n k r l = record {
   apart = omega (arith, r .apart);
   errors-long = omega (arith, r .errors-long);
   thicknesses-long = omega (arith, r .thicknesses-long);

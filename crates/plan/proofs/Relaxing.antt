@@ -22,7 +22,7 @@ use Rattle.sequence.proofs.Bounds.{least-few, least-many}
 use Rattle.sequence.proofs.Marks.{Small, unmark-mark}
 use Rattle.table.specs.Cells.{cellFrom}
 use Rattle.plan.specs.Planning.{Ready, planRules, bestTo}
-use Rattle.plan.specs.Putting.{sumAt, errorOf, thicknessOf, PutOn, Room}
+use Rattle.plan.specs.Putting.{sumAt, errorOf, thicknessOf, PutOn, Placed}
 use Rattle.plan.specs.Rows.{rulesOf, errorTo, thicknessTo, RowTo, Under, Usable}
 use Rattle.plan.proofs.Places.{row-in}
 use Rattle.plan.proofs.Putting.{error-less, error-keep, thickness-less, thickness-keep}
@@ -159,8 +159,8 @@ module _ {table : List ℕ} {bound q t : ℕ} {E F : List ℕ} {first end cell :
         )
 
   -- the places of the counts
-  pub room : Room from to (end - first) E F
-  room =
+  pub placed : Placed from to (end - first) E F
+  placed =
       let i = row-in s (r .ready .sound) q (s .counts) (r .under .row) (omega arith) in
       let d : (q - t + 1) * (s .counts + 1) ≤ q * (s .counts + 1) = mul-le-mul-right (s .counts + 1) (omega (arith, r .usable .thick, r .usable .above)) in
       record {

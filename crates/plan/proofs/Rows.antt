@@ -93,19 +93,19 @@ module _ (s : Settings) (bound : ℕ) (table : List ℕ) (ready : Ready s table)
       go false = refl
 
   -- a row by no layer
-  pub start-none : (q m : ℕ) → 1 ≤ m → bestTo p m (q + 33 - s .tmax) 0 ≡ nothing
+  start-none : (q m : ℕ) → 1 ≤ m → bestTo p m (q + 33 - s .tmax) 0 ≡ nothing
   unfolding bestTo bestOf
   start-none q zero l = absurd (omega arith)
   start-none q (suc m) l = refl
 
-  pub start-low : (q : ℕ) → q < s .tmax → bestTo p 0 (q + 33 - s .tmax) 0 ≡ found 0 0
+  start-low : (q : ℕ) → q < s .tmax → bestTo p 0 (q + 33 - s .tmax) 0 ≡ found 0 0
   unfolding bestTo planRules
   start-low q l =
       let g = ready .sound .greatest in
       let k = ready .sound .thick in
       rw (lt-ltb 32 (q + 33 - s .tmax + tmax (s .«set»)) (omega arith), le-leb (q + 33 - s .tmax) 32 (omega arith))
 
-  pub start-high : (q : ℕ) → s .tmax ≤ q → bestTo p 0 (q + 33 - s .tmax) 0 ≡ nothing
+  start-high : (q : ℕ) → s .tmax ≤ q → bestTo p 0 (q + 33 - s .tmax) 0 ≡ nothing
   unfolding bestTo planRules
   start-high q l =
       let g = ready .sound .greatest in
@@ -113,7 +113,7 @@ module _ (s : Settings) (bound : ℕ) (table : List ℕ) (ready : Ready s table)
       rw (lt-ltb 32 (q + 33 - s .tmax + tmax (s .«set»)) (omega arith), lt-leb (q + 33 - s .tmax) 32 (omega arith))
 
   -- and by all thicknesses
-  pub whole-value : (m h : ℕ) → value (bestTo p m h (s .tmax)) ≡ least p m h
+  whole-value : (m h : ℕ) → value (bestTo p m h (s .tmax)) ≡ least p m h
   unfolding bestTo least planRules
   whole-value zero h = go (ltb 32 (h + tmax (s .«set»)) && leb h 32)
     where
@@ -122,7 +122,7 @@ module _ (s : Settings) (bound : ℕ) (table : List ℕ) (ready : Ready s table)
       go false = refl
   whole-value (suc m) h = rw (ready .sound .greatest)
 
-  pub whole-place : (m h : ℕ) → place (bestTo p m h (s .tmax)) ≡ last p m h
+  whole-place : (m h : ℕ) → place (bestTo p m h (s .tmax)) ≡ last p m h
   unfolding bestTo last planRules
   whole-place zero h = go (ltb 32 (h + tmax (s .«set»)) && leb h 32)
     where

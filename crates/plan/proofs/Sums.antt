@@ -29,7 +29,7 @@ module _ (s : Settings) (bound : ℕ) (table : List ℕ) (ready : Ready s table)
   abbrev p : Rules
   p = rulesOf s bound table
 
-  pub cell-small : (h t : ℕ) → h < s .height + 32 + s .tmax → Layer p h t → p .cell (h - t) t ≤ 16_000_000
+  cell-small : (h t : ℕ) → h < s .height + 32 + s .tmax → Layer p h t → p .cell (h - t) t ≤ 16_000_000
   unfolding planRules
   cell-small h t u l =
       let r = ready .sound in
@@ -38,7 +38,7 @@ module _ (s : Settings) (bound : ℕ) (table : List ℕ) (ready : Ready s table)
       omega (arith, ready .small .are (row * s .tmax + (t - 1)) i, cell-read (s .«set») (s .tmax) table row (h - t) t (r .greatest) refl)
 
   -- a permitted thickness is one from tmin to tmax
-  pub layer-of : (h t : ℕ) → t ≤ h → p .may (h - t) t ≡ true → Layer p h t
+  layer-of : (h t : ℕ) → t ≤ h → p .may (h - t) t ≡ true → Layer p h t
   unfolding planRules
   layer-of h t l e =
       let a = shape-allowed _ _ _ _ (and-true (shape (s .height) (s .«set») (h - t) t) (leb (cellFrom (s .«set») table (h - t) t) bound) e .0) in

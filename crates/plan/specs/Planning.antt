@@ -15,7 +15,7 @@ use Rattle.sequence.specs.Least.{via, least, leastOf}
 use Rattle.sequence.specs.Rules.{rules}
 use Rattle.sequence.specs.Sheets.{mark, errorEntry, thicknessEntry}
 use Rattle.table.specs.Cells.{cellFrom}
-use Rattle.table.specs.Limits.{Bounded}
+use Rattle.table.specs.Limits.{UnderGreatest}
 
 -- the rules that a table is planned by
 unfoldable pub planRules : ℕ → ℕ → ℕ → List ℕ → Rules
@@ -40,4 +40,4 @@ plannedList N T p old = rewritten (λ i x. mark (leastOf p (i + 1))) (M N T) old
 pub record Ready (s : Settings) (table : List ℕ) : Type 0 where
   pub sound : Sound s
   pub size : s .cells ≤ length table
-  pub small : Bounded (s .cells) table
+  pub small : UnderGreatest (s .cells) table

@@ -28,7 +28,7 @@ pub record PutOn (from to cell t n : ℕ) (errors-before thicknesses-before erro
   pub thicknesses-are : Span 0 to n (λ m x. thicknessOf (sumAt errors-before cell (from + m)) (getD errors-before (to + m) 0) t x) thicknesses-before thicknesses
 
 -- the places of n counts are there, what is read lies before what is written, and no sum leaves an entry
-pub record Room (from to n : ℕ) (errors thicknesses : List ℕ) : Type 0 where
+pub record Placed (from to n : ℕ) (errors thicknesses : List ℕ) : Type 0 where
   pub apart : from + n ≤ to
   pub errors-long : to + n ≤ length errors
   pub thicknesses-long : to + n ≤ length thicknesses

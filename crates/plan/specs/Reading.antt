@@ -52,14 +52,20 @@ unfoldable pub readChecks : ℕ → ℕ → List ℕ → List ℕ → ℕ → �
 readChecks N T errors thicknesses n room =
     settingsChecks N T ++ (roomChecks N T errors thicknesses n room ++ entryChecks N T errors thicknesses n)
 
--- THE ANSWER: the least of those entries
+-- the least of those entries
+abbrev pub leastEntry : ℕ → ℕ → List ℕ → ℕ → ℕ
+leastEntry N T errors n = mark (value (endOf N T errors n))
+
+-- the boundaries of the walk down from the lowest height that has it, and what stood past them
+abbrev pub readBoundaries : ℕ → ℕ → List ℕ → List ℕ → ℕ → List ℤ → List ℤ
+readBoundaries N T errors thicknesses n old = boundariesUnder (entry N T thicknesses) n (place (endOf N T errors n)) (drop (n + 1) old)
+
+-- THE ANSWER
 unfoldable pub readAnswer : ℕ → ℕ → List ℕ → List ℕ → ℕ → ℕ → Told ℕ
 readAnswer N T errors thicknesses n room =
-    decided (readChecks N T errors thicknesses n room) (mark (value (endOf N T errors n)))
+    decided (readChecks N T errors thicknesses n room) (leastEntry N T errors n)
 
--- THE OUTPUT: the boundaries from the lowest up, and what stood past them
+-- THE OUTPUT: the boundaries from the lowest up
 unfoldable pub readOut : ℕ → ℕ → List ℕ → List ℕ → ℕ → List ℤ → List ℤ
 readOut N T errors thicknesses n old =
-    after (readAnswer N T errors thicknesses n (length old))
-    (boundariesUnder (entry N T thicknesses) n (place (endOf N T errors n)) (drop (n + 1) old))
-    old
+    after (readAnswer N T errors thicknesses n (length old)) (readBoundaries N T errors thicknesses n old) old

@@ -5,14 +5,13 @@ use mathlib.Core.Path.{_≡_}
 use mathlib.Core.List.{List, [], map}
 use mathlib.Core.Option.{Option, none, some}
 use lib.IntN.{ℤ}
-use lib.ListN.{drop}
 use lib.Seq.{slice}
 use Rattle.lists.specs.Checks.{Check}
-use Rattle.lists.specs.Best.{value, place}
 use Rattle.plate.specs.Datum.{heightOf}
 use Rattle.plate.specs.Refusal.{Told, Numbered, decided, after}
 use Rattle.plate.specs.declared.settings.Settings.{Settings}
-use Rattle.sequence.specs.Sheets.{mark, entry, endOf, faultUnder, boundariesUnder}
+use Rattle.sequence.specs.Sheets.{faultUnder, boundariesUnder}
+use Rattle.plan.specs.Reading.{leastEntry, readBoundaries}
 use Rattle.plan.specs.declared.Walk.{Walk}
 use Rattle.plan.specs.declared.Walk.the-variants.{Fine, Fault}
 
@@ -43,14 +42,6 @@ pub record Roomy (s : Settings) (errors thicknesses n room : ℕ) : Type 0 where
   pub thicknesses-whole : s .entries ≤ thicknesses
   pub count : n ≤ s .counts
   pub fits : n < room
-
--- the least entry of the count n at the end heights
-abbrev pub leastEntry : ℕ → ℕ → List ℕ → ℕ → ℕ
-leastEntry N T errors n = mark (value (endOf N T errors n))
-
--- the output with the boundaries of the walk down from the lowest height that has it
-abbrev pub readBoundaries : ℕ → ℕ → List ℕ → List ℕ → ℕ → List ℤ → List ℤ
-readBoundaries N T errors thicknesses n old = boundariesUnder (entry N T thicknesses) n (place (endOf N T errors n)) (drop (n + 1) old)
 
 -- what is told where these checks are left, and what the output, which held `old`, holds then
 pub record Answered (checks : List (Check Numbered)) (N T : ℕ) (errors thicknesses : List ℕ) (n : ℕ) (answer : Told ℕ) (old new : List ℤ) : Type 0 where

@@ -15,7 +15,7 @@ ghost use Rattle.sequence.specs.Least.{plus};
 ghost use Rattle.sequence.specs.Sheets.{mark, unmark, entry, endOf};
 ghost use Rattle.table.specs.Cells.{cellFrom};
 ghost use Rattle.plan.specs.Planning.{Ready, planRules, plannedErrors, plannedThicknesses, plannedList};
-ghost use Rattle.plan.specs.Putting.{Room, PutOn};
+ghost use Rattle.plan.specs.Putting.{Placed, PutOn};
 ghost use Rattle.plan.specs.Rows.{rulesOf, RowTo, Under, Usable, Planned};
 ghost use Rattle.plan.specs.Reading.{entryChecks, roomChecks, readAnswer, readOut};
 ghost use Rattle.plan.specs.Walking.{Within, Walked, notedFrom, Roomy, Answered};
@@ -211,7 +211,7 @@ fn may_use(table: &[u32], s: Settings, bound: u32, start: usize, t: usize) -> bo
     cell_at(table, s, start, t) <= bound
 }
 
-// An entry with a layer's error more, and none where there is none: none and a layer's error would be beyond the greatest entry.
+// An entry with a layer's error more, and none where there is none: only none and an error above 0 come to more than the greatest entry.
 fn sum_or_none(e: u64, cell: u32) -> u64
     requires { ⌜ ((e ≡ missing → ⊥) → e ≤ 9_184_000_000) ⌝ }
     ensures { λ r. ⌜ r ≡ mark (plus cell (unmark e)) ⌝ }
@@ -235,7 +235,7 @@ fn end_count(s: Settings, start: usize) -> usize
     end
 }
 
-// With fewer layers than this no layer can start at a row from which it would reach row q: they would have to be thicker than tmax.
+// Fewer layers than this do not reach even the lowest row from which a layer ends at row q.
 fn first_count(s: Settings, q: usize) -> usize
     requires { ⌜ Sound s ⌝ }
     ensures { λ r. ⌜ r * s .tmax ≤ q - s .tmax ⌝ }
@@ -286,7 +286,7 @@ fn start_row(
 // A last layer put on the sequences of one count: the entry at `to` becomes the better of what it is and of that at `from` with the layer.
 fn put_on(errors: &mut [u64], thicknesses: &mut [u8], from: usize, to: usize, cell: u32, t: usize)
     requires { ⌜ t ≤ 32 ⌝ }
-    requires { ⌜ Room from to 1 (now errors) (now thicknesses) ⌝ }
+    requires { ⌜ Placed from to 1 (now errors) (now thicknesses) ⌝ }
     ensures { λ _. ⌜ PutOn from to cell t 1 (now (errors .entry)) (now (thicknesses .entry)) (now (errors .exit)) (now (thicknesses .exit)) ⌝ }
 {
     let c = sum_or_none(errors[from], cell);
@@ -299,7 +299,7 @@ fn put_on(errors: &mut [u64], thicknesses: &mut [u8], from: usize, to: usize, ce
 // The same for two counts.
 fn put_two(errors: &mut [u64], thicknesses: &mut [u8], from: usize, to: usize, cell: u32, t: usize)
     requires { ⌜ t ≤ 32 ⌝ }
-    requires { ⌜ Room from to 2 (now errors) (now thicknesses) ⌝ }
+    requires { ⌜ Placed from to 2 (now errors) (now thicknesses) ⌝ }
     ensures { λ _. ⌜ PutOn from to cell t 2 (now (errors .entry)) (now (thicknesses .entry)) (now (errors .exit)) (now (thicknesses .exit)) ⌝ }
 {
     put_on(errors, thicknesses, from, to, cell, t);
@@ -309,7 +309,7 @@ fn put_two(errors: &mut [u64], thicknesses: &mut [u8], from: usize, to: usize, c
 // The same for four counts.
 fn put_four(errors: &mut [u64], thicknesses: &mut [u8], from: usize, to: usize, cell: u32, t: usize)
     requires { ⌜ t ≤ 32 ⌝ }
-    requires { ⌜ Room from to 4 (now errors) (now thicknesses) ⌝ }
+    requires { ⌜ Placed from to 4 (now errors) (now thicknesses) ⌝ }
     ensures { λ _. ⌜ PutOn from to cell t 4 (now (errors .entry)) (now (thicknesses .entry)) (now (errors .exit)) (now (thicknesses .exit)) ⌝ }
 {
     put_two(errors, thicknesses, from, to, cell, t);
@@ -326,7 +326,7 @@ fn put_eight(
     t: usize,
 )
     requires { ⌜ t ≤ 32 ⌝ }
-    requires { ⌜ Room from to 8 (now errors) (now thicknesses) ⌝ }
+    requires { ⌜ Placed from to 8 (now errors) (now thicknesses) ⌝ }
     ensures { λ _. ⌜ PutOn from to cell t 8 (now (errors .entry)) (now (thicknesses .entry)) (now (errors .exit)) (now (thicknesses .exit)) ⌝ }
 {
     put_four(errors, thicknesses, from, to, cell, t);
@@ -344,7 +344,7 @@ fn put_few(
     n: usize,
 )
     requires { ⌜ t ≤ 32 ⌝ }
-    requires { ⌜ Room from to n (now errors) (now thicknesses) ⌝ }
+    requires { ⌜ Placed from to n (now errors) (now thicknesses) ⌝ }
     ensures { λ _. ⌜ PutOn from to cell t n (now (errors .entry)) (now (thicknesses .entry)) (now (errors .exit)) (now (thicknesses .exit)) ⌝ }
 {
     let mut m = 0;
@@ -365,7 +365,7 @@ fn put_all(
     n: usize,
 )
     requires { ⌜ t ≤ 32 ⌝ }
-    requires { ⌜ Room from to n (now errors) (now thicknesses) ⌝ }
+    requires { ⌜ Placed from to n (now errors) (now thicknesses) ⌝ }
     ensures { λ _. ⌜ PutOn from to cell t n (now (errors .entry)) (now (thicknesses .entry)) (now (errors .exit)) (now (thicknesses .exit)) ⌝ }
 {
     let whole = n / 8 * 8;
@@ -377,7 +377,8 @@ fn put_all(
     put_few(errors, thicknesses, from + m, to + m, cell, t, n - m);
 }
 
-// One thickness more in row q, for every count that the row where the layer starts can have: a last layer of thickness t, permitted there.
+// One thickness more in row q: a last layer of thickness t, permitted where it starts, for every count that its start row can have. Under
+// `first` there is none.
 fn relax(
     table: &[u32],
     s: Settings,

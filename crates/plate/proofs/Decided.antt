@@ -6,8 +6,8 @@ use mathlib.Core.List.{List, _++_}
 use mathlib.Core.Option.{Option, none, some}
 use Prim.Native.Nat.{ℕ}
 use native.Mathlib.Omega.{arith}
-use Rattle.lists.specs.Checks.{Check, first, Given, Quiet}
-use Rattle.lists.proofs.Checks.{first-passed, first-stopped, first-exactly, first-none}
+use Rattle.lists.specs.Checks.{Check, first, Given}
+use Rattle.lists.proofs.Checks.{first-passed, first-stopped, first-exactly}
 use Rattle.plate.specs.declared.refusal.Reason.{Reason}
 use Rattle.plate.specs.declared.settings.Made.the-variants.{Bad}
 use Rattle.plate.specs.Settings.{settingsChecks, settingsOf, toldMade}
@@ -43,13 +43,6 @@ module _ {X : Type 0} where
   refused-exactly cs x n p = (
     λ e. first-exactly cs _ .0 (told-refused (first cs) x n p e),
     λ g. ap (λ (o : Option Numbered). toldBy o x) (first-exactly cs (record { number = n; place = p }) .1 g),
-  )
-
-  -- and the call is done exactly when none holds
-  pub done-exactly : (cs : List (Check Numbered)) (x : X) → (decided cs x ≡ done x) ↔ Quiet cs
-  done-exactly cs x = (
-    λ e. first-none cs .0 (told-done (first cs) x x e .0),
-    λ q. ap (λ (o : Option Numbered). toldBy o x) (first-none cs .1 q),
   )
 
   -- the same where the first checks were asked by a function of their own, which said `said`

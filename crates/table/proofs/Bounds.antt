@@ -18,7 +18,7 @@ use Rattle.paper.specs.Table.{cells, limit, thicknessAt, InBounds, mostColumns}
 use Rattle.plate.specs.Settings.{Sound}
 use Rattle.plate.specs.declared.settings.Settings.{Settings}
 use Rattle.table.specs.Cells.{outOfBounds, firstOut, addend, overfull, firstOverfull, notPart, firstNotPart}
-use Rattle.table.specs.Limits.{Bounded}
+use Rattle.table.specs.Limits.{UnderGreatest}
 use Rattle.table.specs.Calls.{boundChecks, outCell, pairOut}
 use Rattle.table.proofs.Cells.{cells-sound}
 use Rattle.table.proofs.Limits.{limit-le}
@@ -29,7 +29,7 @@ thickness-le T i l = let u = mod-lt i l in omega arith
 
 module _ (N T c : ℕ) (table : List ℕ) where
   -- no cell is out of bounds
-  pub all-within : cells N T ≤ firstOut N T c table → (i : ℕ) → i < cells N T → getD table i 0 ≤ limit T c (thicknessAt T i)
+  all-within : cells N T ≤ firstOut N T c table → (i : ℕ) → i < cells N T → getD table i 0 ≤ limit T c (thicknessAt T i)
   unfolding firstOut outOfBounds
   all-within h i l = ltb-false (limit T c (thicknessAt T i)) (getD table i 0) (lowest-before (outOfBounds T c table) (cells N T) i (omega arith))
 
@@ -48,17 +48,17 @@ module _ (N T c : ℕ) (table : List ℕ) where
 
 -- where no cell is out of bounds, none is above the greatest limit: one table's, and those of two that passed 6
 module _ {s : Settings} (k : Sound s) where
-  pub table-bounded : (c : ℕ) (table : List ℕ) → c ≤ 1_000_000 → cells (s .height) (s .«set») ≤ firstOut (s .height) (s .«set») c table → Bounded (s .cells) table
-  table-bounded c table u h = record {
+  pub table-under : (c : ℕ) (table : List ℕ) → c ≤ 1_000_000 → cells (s .height) (s .«set») ≤ firstOut (s .height) (s .«set») c table → UnderGreatest (s .cells) table
+  table-under c table u h = record {
     are = λ i l.
         within-small (s .height) (s .«set») c table (omega (arith, k .greatest, k .thin, k .order)) (omega (arith, k .greatest, k .thick)) u h i (omega (arith, cells-sound k));
   }
 
-  pub pair-bounded : (c : ℕ) (table : List ℕ) (c′ : ℕ) (other : List ℕ) → c ≤ 1_000_000 → c′ ≤ 1_000_000
-      → none ≡ first (pairOut (s .height) (s .«set») c table c′ other) → Bounded (s .cells) table × Bounded (s .cells) other
-  pair-bounded c table c′ other u u′ e =
+  pub pair-under : (c : ℕ) (table : List ℕ) (c′ : ℕ) (other : List ℕ) → c ≤ 1_000_000 → c′ ≤ 1_000_000
+      → none ≡ first (pairOut (s .height) (s .«set») c table c′ other) → UnderGreatest (s .cells) table × UnderGreatest (s .cells) other
+  pair-under c table c′ other u u′ e =
       let w = pair-within (s .height) (s .«set») c table c′ other e in
-      (table-bounded c table u (w .0), table-bounded c′ other u′ (w .1))
+      (table-under c table u (w .0), table-under c′ other u′ (w .1))
 
 module _ (N T c : ℕ) (table bs : List ℕ) where
   pub overfull-fits : cells N T ≤ firstOverfull N T c table bs → 1 ≤ tmax T → tmax T ≤ 32 → c ≤ 1_000_000

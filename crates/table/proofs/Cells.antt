@@ -2,7 +2,7 @@
 -- limits is what document 01 asks of the cell's index; and the cell of a layer, by the datum height of its start, is document 01's, by cases
 -- on the start's sign. Assumes nothing.
 use mathlib.Core.Path.{_≡_, sym, ap, _∙_, subst}
-use mathlib.Core.Bool.{Bool, true, false, cond, _&&_, _||_}
+use mathlib.Core.Bool.{Bool, true, false, cond, _&&_}
 use mathlib.Core.List.{List}
 use Prim.Native.Nat.{ℕ, suc, _+_, _-_, _*_, _/_, _%_, _≤_, _<_}
 use native.Mathlib.Nat.{mod-lt, div-add-mod', div-lt-iff-lt-mul}
@@ -19,15 +19,15 @@ use Rattle.plate.specs.Settings.{Sound}
 use Rattle.plate.specs.declared.settings.Settings.{Settings}
 use Rattle.plate.proofs.Datum.{neg-height, sum-height, natural-sub}
 use Rattle.column.proofs.Shares.{share-le}
-use Rattle.table.specs.Cells.{cellFrom, outOfBounds, addend, overfull, notPart}
+use Rattle.table.specs.Cells.{cellFrom, outOfBounds, addend, overfull, isApart, notPart}
 use Rattle.table.specs.Limits.{Limits, Within, above, heaped, apart}
 
 module _ (T m r j : ℕ) (e : m ≡ tmax T) (l : j < m) where
-  pub thickness-row : thicknessAt T (r * m + j) ≡ j + 1
+  thickness-row : thicknessAt T (r * m + j) ≡ j + 1
   unfolding thicknessAt
   thickness-row = rw (← e) (ap (λ (x : ℕ). x + 1) (digits-mod r l))
 
-  pub start-row : m ≤ 32 → startAt T (r * m + j) ≡ heightOf (r + 33 - m)
+  start-row : m ≤ 32 → startAt T (r * m + j) ≡ heightOf (r + 33 - m)
   unfolding startAt
   start-row u =
       let a : 32 - (m - 1) + r ≡ r + 33 - m = omega arith in
@@ -61,7 +61,7 @@ module _ (T m r j : ℕ) (e : m ≡ tmax T) (l : j < m) where
     pub part-row : (table other : List ℕ) → notPart T c table other (r * m + j) ≡ apart limits table other (r * m) j
     unfolding notPart apart
     part-row table other =
-        ap (λ (x : ℕ). ltb (getD table (r * m + j) 0) (getD other (r * m + j) 0) || ltb x (getD table (r * m + j) 0 - getD other (r * m + j) 0)) limit-row
+        ap (λ (x : ℕ). isApart x (getD table (r * m + j) 0) (getD other (r * m + j) 0)) limit-row
 
 -- what a column adds is at most half of the layer
 pub addend-le : (T i : ℕ) (bs : List ℕ) → addend T bs i ≤ thicknessAt T i / 2

@@ -11,7 +11,7 @@ use lib.ListN.{getD}
 use Rattle.paper.specs.Layer.{allowed}
 use Rattle.paper.specs.Table.{limit}
 use Rattle.table.specs.Cells.{addend}
-use Rattle.table.specs.Limits.{Limits, Bounded, above, heaped, apart}
+use Rattle.table.specs.Limits.{Limits, UnderGreatest, above, heaped, apart}
 
 pub limit-allowed : (T c t : ℕ) → allowed T t ≡ true → limit T c t ≡ c * (t / 2)
 unfolding limit
@@ -32,11 +32,11 @@ limit-le T c t l u = go (allowed T t)
     go true = product-le c t l u
     go false = omega arith
 
-pub limits-bounded : {T c : ℕ} {limits : List ℕ} → c ≤ 1_000_000 → Limits T c limits → Bounded 32 limits
-limits-bounded {T} {c} u l = record { are = λ j i. rw (l .are j i) (limit-le T c (j + 1) u (omega arith)) }
+pub limits-under : {T c : ℕ} {limits : List ℕ} → c ≤ 1_000_000 → Limits T c limits → UnderGreatest 32 limits
+limits-under {T} {c} u l = record { are = λ j i. rw (l .are j i) (limit-le T c (j + 1) u (omega arith)) }
 
-pub bounded-less : {n : ℕ} {numbers : List ℕ} (m : ℕ) → m ≤ n → Bounded n numbers → Bounded m numbers
-bounded-less m l b = record { are = λ i u. b .are i (omega arith) }
+pub under-less : {n : ℕ} {numbers : List ℕ} (m : ℕ) → m ≤ n → UnderGreatest n numbers → UnderGreatest m numbers
+under-less m l b = record { are = λ i u. b .are i (omega arith) }
 
 module _ (limits table : List ℕ) (base j : ℕ) where
   pub above-yes : getD limits j 0 < getD table (base + j) 0 → above limits table base j ≡ true

@@ -32,9 +32,13 @@ overfull T c table bs i = ltb 0 (addend T bs i) && outOfBounds T c table i
 unfoldable pub firstOverfull : ℕ → ℕ → ℕ → List ℕ → List ℕ → ℕ
 firstOverfull N T c table bs = lowest (overfull T c table bs) (cells N T)
 
+-- a cell less another one is negative or above a limit
+abbrev pub isApart : ℕ → ℕ → ℕ → Bool
+isApart limit cell other = ltb cell other || ltb limit (cell - other)
+
 -- the lowest cell where the difference is negative or out of bounds for d columns
 unfoldable pub notPart : ℕ → ℕ → List ℕ → List ℕ → ℕ → Bool
-notPart T d table other i = ltb (getD table i 0) (getD other i 0) || ltb (limit T d (thicknessAt T i)) (getD table i 0 - getD other i 0)
+notPart T d table other i = isApart (limit T d (thicknessAt T i)) (getD table i 0) (getD other i 0)
 
 unfoldable pub firstNotPart : ℕ → ℕ → ℕ → List ℕ → List ℕ → ℕ
 firstNotPart N T d table other = lowest (notPart T d table other) (cells N T)

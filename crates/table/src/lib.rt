@@ -1,7 +1,6 @@
 // The error table of a plate: clear it, add a column, join a second table into it, take one off.
 ghost use mathlib.Core.Path.{_≡_};
-ghost use mathlib.Core.Bool.{false, _||_};
-ghost use lib.Dec.{ltb};
+ghost use mathlib.Core.Bool.{false};
 ghost use Prim.Native.Nat.{ℕ, _+_, _-_, _*_, _<_, _≤_};
 ghost use lib.ListN.{length, getD};
 ghost use Rattle.lists.specs.Checks.{first};
@@ -11,9 +10,9 @@ ghost use Rattle.paper.specs.Table.{limit};
 ghost use Rattle.plate.specs.Checked.{saidBy};
 ghost use Rattle.plate.specs.Refusal.{decided, after};
 ghost use Rattle.plate.specs.Settings.{Sound};
-ghost use Rattle.table.specs.Cells.{firstOut, addend, firstOverfull, firstNotPart};
+ghost use Rattle.table.specs.Cells.{firstOut, addend, firstOverfull, isApart, firstNotPart};
 ghost use Rattle.table.specs.Tabled.{toldTable, tallyOf};
-ghost use Rattle.table.specs.Limits.{Limits, Bounded, Within, above, heaped, apart};
+ghost use Rattle.table.specs.Limits.{Limits, UnderGreatest, Within, above, heaped, apart};
 ghost use Rattle.table.specs.Calls.{tableRest, tableChecks, clearAnswer, clearTable, addRest, addAnswer, added, addTable, Paired, pairOut, joinRest, joinAnswer, joined, joinTable, partChecks, takeRest, takeAnswer, taken, takeTable};
 use column::check_column;
 use column::judge;
@@ -60,7 +59,7 @@ fn fails(reason: Reason, place: usize) -> Checked
 // The most that a cell of thickness t can hold.
 fn limit_of(set: u32, columns: u32, t: usize) -> u32
     requires { ⌜ (columns ≤ 1000000) × (t ≤ 32) ⌝ }
-    ensures { λ r. ⌜ (r ≡ limit «set» columns t) × (r ≤ 16000000) ⌝ }
+    ensures { λ r. ⌜ r ≡ limit «set» columns t ⌝ }
 {
     if is_allowed(set, t) {
         columns * ((t / 2) as u32)
@@ -83,7 +82,8 @@ fn limits_of(set: u32, columns: u32) -> [u32; 32]
     limits
 }
 
-// The width of a row as it is. That it is at most 32 is asked for the compiler alone, which then unrolls a loop over the row.
+// The width of a row as it is. That it is at most 32 is asked for the compiler alone, which then unrolls a loop over the row and reads the
+// limits once for all rows.
 fn row_end(width: usize) -> usize
     requires { ⌜ width ≤ 32 ⌝ }
     ensures { λ r. ⌜ r ≡ width ⌝ }
@@ -94,7 +94,7 @@ fn row_end(width: usize) -> usize
     width
 }
 
-// Whether a cell of two rows is above its limit. The loop has no way out, so that it is quick where there is none, as there mostly is.
+// Whether a cell of two rows is above its limit. The loop has no way out, so that it is quick where there is none, as is mostly so.
 fn any_above(table: &[u32], limits: &[u32; 32], base: usize, next: usize, width: usize) -> bool
     requires { ⌜ (width ≤ 32) × ((base + width ≤ length (now table)) × (next + width ≤ length (now table))) ⌝ }
     ensures { λ r. ⌜ (r ≡ false → Within (now (limits .entry)) (now (table .entry)) base width × Within (now (limits .entry)) (now (table .entry)) next width) ⌝ }
@@ -110,7 +110,7 @@ fn any_above(table: &[u32], limits: &[u32; 32], base: usize, next: usize, width:
     found
 }
 
-// The first cell of the row that is looked through beside a row: the next row's, or its own where it is the last.
+// The first cell of a row to look through beside a row: of the next one, where there is one.
 fn partner_of(s: Settings, row: usize) -> usize
     requires { ⌜ Sound s ⌝ }
     requires { ⌜ row < s .rows ⌝ }
@@ -180,7 +180,7 @@ fn first_out(table: &[u32], s: Settings, columns: u32) -> usize
 // Whether a difference is negative or above its limit: a negative one wraps to beyond every limit.
 fn is_apart(limit: u32, cell: u32, other: u32) -> bool
     requires { ⌜ (limit ≤ 16000000) × (other ≤ 16000000) ⌝ }
-    ensures { λ r. ⌜ r ≡ (ltb cell other || ltb limit (cell - other)) ⌝ }
+    ensures { λ r. ⌜ r ≡ isApart limit cell other ⌝ }
 {
     limit < std::num::wrapping_sub_u32(cell, other)
 }
@@ -188,7 +188,7 @@ fn is_apart(limit: u32, cell: u32, other: u32) -> bool
 // Whether a difference of a row is negative or above its limit.
 fn any_apart(table: &[u32], other: &[u32], limits: &[u32; 32], base: usize, width: usize) -> bool
     requires { ⌜ (width ≤ 32) × ((base + width ≤ length (now table)) × (base + width ≤ length (now other))) ⌝ }
-    requires { ⌜ Bounded 32 (now limits) × Bounded (base + width) (now other) ⌝ }
+    requires { ⌜ UnderGreatest 32 (now limits) × UnderGreatest (base + width) (now other) ⌝ }
     ensures { λ r. ⌜ (r ≡ false → (j : ℕ) → j < width → apart (now (limits .entry)) (now (table .entry)) (now (other .entry)) base j ≡ false) ⌝ }
 {
     let end = row_end(width);
@@ -230,7 +230,7 @@ fn search_apart(
 // The same, where there is mostly none.
 fn apart_row(table: &[u32], other: &[u32], limits: &[u32; 32], base: usize, width: usize) -> usize
     requires { ⌜ (width ≤ 32) × ((base + width ≤ length (now table)) × (base + width ≤ length (now other))) ⌝ }
-    requires { ⌜ Bounded 32 (now limits) × Bounded (base + width) (now other) ⌝ }
+    requires { ⌜ UnderGreatest 32 (now limits) × UnderGreatest (base + width) (now other) ⌝ }
     ensures { λ r. ⌜ r ≡ lowest (apart (now (limits .entry)) (now (table .entry)) (now (other .entry)) base) width ⌝ }
 {
     if !any_apart(table, other, limits, base, width) {
@@ -243,7 +243,7 @@ fn apart_row(table: &[u32], other: &[u32], limits: &[u32; 32], base: usize, widt
 fn first_not_part(table: &[u32], other: &[u32], s: Settings, columns: u32) -> usize
     requires { ⌜ Sound s ⌝ }
     requires { ⌜ (columns ≤ 1000000) × ((s .cells ≤ length (now table)) × (s .cells ≤ length (now other))) ⌝ }
-    requires { ⌜ Bounded (s .cells) (now other) ⌝ }
+    requires { ⌜ UnderGreatest (s .cells) (now other) ⌝ }
     ensures { λ r. ⌜ r ≡ firstNotPart (s .height) (s .«set») columns (now (table .entry)) (now (other .entry)) ⌝ }
 {
     let limits = limits_of(s.set, columns);
@@ -598,7 +598,7 @@ fn take_part(
 ) -> Tabled
     requires { ⌜ Sound s ⌝ }
     requires { ⌜ (columns ≤ 1000000) × ((s .cells ≤ length (now table)) × (s .cells ≤ length (now other))) ⌝ }
-    requires { ⌜ Bounded (s .cells) (now other) ⌝ }
+    requires { ⌜ UnderGreatest (s .cells) (now other) ⌝ }
     ensures { λ r. ⌜ (toldTable r ≡ decided (partChecks (s .height) (s .«set») columns (now (table .entry)) «other_columns» (now (other .entry))) (tallyOf (columns - «other_columns»)))
         × (now (table .exit) ≡ after (decided (partChecks (s .height) (s .«set») columns (now (table .entry)) «other_columns» (now (other .entry))) (tallyOf (columns - «other_columns»))) (taken (s .height) (s .«set») (now (table .entry)) (now (other .entry))) (now (table .entry))) ⌝ }
 {

@@ -69,7 +69,7 @@ fn print_tally(tally: &Tally) {
     }
 }
 
-/// Every refusal that a call can give was given, so that no order went unseen.
+/// Every refusal of the calls' lists was given, so that no order went unseen; 7 of a job file is among the edges.
 fn check_tally(tally: &Tally) -> Result<(), String> {
     for (i, call) in CALLS.iter().enumerate() {
         let missing = call.refusals.iter().chain(&[0]).find(|&&r| !tally.contains_key(&(i, r)));

@@ -3,8 +3,8 @@
 use Prim.Native.Nat.{_+_, _-_, _%_, _≤_}
 use mathlib.Core.Path.{_≡_}
 use native.Mathlib.Omega.{arith}
-use Rattle.plan.specs.Putting.{PutOn, Room}
-use Rattle.plan.proofs.Putting.{put-none, put-more, put-as, room-part, room-rest}
+use Rattle.plan.specs.Putting.{PutOn, Placed}
+use Rattle.plan.proofs.Putting.{put-none, put-more, put-as, placed-part, placed-rest}
 use Rattle.plan.proofs.put_all.Statement.{statement}
 use Rattle.plan.proofs.put_all.Tie as tie
 
@@ -19,8 +19,8 @@ module _ (l : tie.At-loop Inv-loop μ-loop) where
   abbrev s : tie.Start Inv-loop μ-loop
   s = l .before .before .before
 
-  rest : Room (s .args .from + l .loop .m) (s .args .to + l .loop .m) (s .args .n - l .loop .m) (l .loop .errors) (l .loop .thicknesses)
-  rest = room-rest _ _ (s .pre .1) (l .loop .inv .1) (l .loop .inv .0)
+  rest : Placed (s .args .from + l .loop .m) (s .args .to + l .loop .m) (s .args .n - l .loop .m) (l .loop .errors) (l .loop .thicknesses)
+  rest = placed-rest _ _ (s .pre .1) (l .loop .inv .1) (l .loop .inv .0)
 
 loop-again : tie.Need-loop-again Inv-loop μ-loop
 loop-again c =
@@ -44,7 +44,7 @@ put-all-spec =
     (λ c. (omega arith, put-none, omega arith))
     (λ c. let l = c .before .before .before in omega (arith, rest l .apart, rest l .errors-long))
     (λ c. let l = c .before .before .before in omega (arith, rest l .errors-long))
-    (λ c κs. let l = c .before .before .before in (s l .pre .0, room-part _ 8 (rest l) (omega (arith, l .loop .inv .2))))
+    (λ c κs. let l = c .before .before .before in (s l .pre .0, placed-part _ 8 (rest l) (omega (arith, l .loop .inv .2))))
     (λ c. omega arith)
     (λ c. omega arith)
     loop-again

@@ -2,7 +2,7 @@
 use Prim.Native.Nat.{_-_, _≤_}
 use native.Mathlib.Omega.{arith}
 use Rattle.plan.specs.Putting.{PutOn}
-use Rattle.plan.proofs.Putting.{put-none, put-more, put-as, room-part, room-rest}
+use Rattle.plan.proofs.Putting.{put-none, put-more, put-as, placed-part, placed-rest}
 use Rattle.plan.proofs.put_few.Statement.{statement}
 use Rattle.plan.proofs.put_few.Tie as tie
 
@@ -16,7 +16,7 @@ put-on-requires : tie.Need-put-on-requires Inv-loop μ-loop
 put-on-requires c κs =
     let l = c .before .before .before in
     let s = l .before .before .before in
-    (s .pre .0, room-part _ 1 (room-rest _ _ (s .pre .1) (l .loop .inv .1) (l .loop .inv .0)) (omega arith))
+    (s .pre .0, placed-part _ 1 (placed-rest _ _ (s .pre .1) (l .loop .inv .1) (l .loop .inv .0)) (omega arith))
 
 loop-again : tie.Need-loop-again Inv-loop μ-loop
 loop-again c =

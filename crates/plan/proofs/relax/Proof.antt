@@ -3,12 +3,12 @@
 use Prim.Native.Nat.{_+_, _-_, _*_, _<_, _≤_}
 use native.Mathlib.Omega.{arith}
 use Rattle.plan.proofs.Places.{row-in}
-use Rattle.plan.proofs.Relaxing.{Relaxing, first-few, first-end, room, relaxed}
+use Rattle.plan.proofs.Relaxing.{Relaxing, first-few, first-end, placed, relaxed}
 use Rattle.plan.proofs.relax.Statement.{statement}
 use Rattle.plan.proofs.relax.Tie as tie
 
 module _ (s : tie.Start) where
-  -- where the row's last entry stands, and the first one of the row where the layer starts
+  -- where the last entries of the row, and of the row where the layer starts, stand
   row-end : s .args .q * (s .args .s .counts + 1) + s .args .s .counts < s .args .s .entries
   row-end = row-in (s .args .s) (s .pre .0 .sound) (s .args .q) (s .args .s .counts) (s .pre .1 .0 .row) (omega arith)
 
@@ -55,7 +55,7 @@ relax-spec =
     (λ c κs. let s = c .before .before .before .before .before in (s .pre .0, (omega (arith, s .pre .1 .0 .row, s .pre .1 .1 .0 .thick, s .pre .1 .1 .0 .above), s .pre .1 .1 .0 .thick, s .pre .1 .1 .0 .thin)))
     (λ c κs. let s = c .before .before .before .before .before .before in (s .pre .0 .sound, omega (arith, s .pre .1 .0 .row, s .pre .1 .1 .0 .thick, s .pre .1 .1 .0 .above)))
     (λ c. first-end (found (c .before .before)))
-    (λ c κs. let e = c .before .before in (omega (arith, s e .pre .1 .1 .0 .thin, s e .pre .0 .sound .thick), room (found e)))
+    (λ c κs. let e = c .before .before in (omega (arith, s e .pre .1 .1 .0 .thin, s e .pre .0 .sound .thick), placed (found e)))
     (λ c. whole c .errors-are .long)
     (λ c. whole c .thicknesses-are .long)
     whole)

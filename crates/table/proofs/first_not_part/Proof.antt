@@ -9,7 +9,7 @@ use Rattle.lists.proofs.Search.{row-missed, row-found, missed}
 use Rattle.table.specs.Cells.{notPart, firstNotPart}
 use Rattle.table.specs.Limits.{Limits}
 use Rattle.table.proofs.Cells.{part-row, row-in, cells-sound}
-use Rattle.table.proofs.Limits.{limits-bounded, bounded-less}
+use Rattle.table.proofs.Limits.{limits-under, under-less}
 use Rattle.table.proofs.first_not_part.Statement.{statement}
 use Rattle.table.proofs.first_not_part.Tie as tie
 
@@ -62,7 +62,7 @@ first-not-part-spec =
     let s = l .before .before .before .before in
     let k = s .pre .0 in
     let r = row-in k (l .loop .row) (omega arith) in
-    ((k .thick, (omega arith, omega arith)), (limits-bounded (s .pre .1 .0 .0) (l .loop .inv .1), bounded-less _ r (s .pre .1 .1))))
+    ((k .thick, (omega arith, omega arith)), (limits-under (s .pre .1 .0 .0) (l .loop .inv .1), under-less _ r (s .pre .1 .1))))
     (λ c. let l = c .before .before .before .before .before .before .before in let k = l .before .before .before .before .pre .0 in omega (arith, row-in k (l .loop .row) (omega arith), k .few-cells))
     returns
     (λ c. search needs)

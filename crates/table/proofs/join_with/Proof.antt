@@ -19,7 +19,7 @@ use Rattle.table.specs.declared.Tally.{Tally}
 use Rattle.table.specs.Tabled.{tallyOf}
 use Rattle.table.specs.Calls.{pairOut, joinRest, joined}
 use Rattle.table.proofs.Cells.{cells-sound}
-use Rattle.table.proofs.Bounds.{pair-bounded}
+use Rattle.table.proofs.Bounds.{pair-under}
 use Rattle.table.proofs.Answers.{stop, join-short, join-short-other, join-many, join-many-other, join-many-both, join-pair}
 use Rattle.table.proofs.join_with.Statement.{statement}
 use Rattle.table.proofs.join_with.Tie as tie
@@ -59,7 +59,7 @@ join-cells-requires c κs =
     let d = c .before .before .before in
     let a = s d .args in
     let k = s d .pre in
-    let b = pair-bounded k (a .columns) (a .table .now) (a .other-columns) (a .other .now) (omega arith) (omega arith) (ap saidBy (sym (c .before .enum-told .given .1)) ∙ said d) in
+    let b = pair-under k (a .columns) (a .table .now) (a .other-columns) (a .other .now) (omega arith) (omega arith) (ap saidBy (sym (c .before .enum-told .given .1)) ∙ said d) in
     ((omega arith, omega arith), λ i l. omega (arith, b .0 .are i l, b .1 .are i l))
 
 returns-7 : tie.Need-returns-7

@@ -13,7 +13,5 @@ limit-of-spec =
     (λ c κs. search needs)
     (λ c. search needs)
     (λ c. let a = c .before .before .args in omega (arith, product-le (a .columns) (a .t) (omega arith) (omega arith)))
-    (λ c.
-    let a = c .before .before .args in
-    (sym (limit-allowed _ _ _ (sym (c .before .is-allowed .ensures) ∙ c .if1 .taken)), product-le (a .columns) (a .t) (omega arith) (omega arith)))
-    (λ c. (sym (limit-barred _ _ _ (sym (c .before .is-allowed .ensures) ∙ c .if1 .left)), omega arith)))
+    (λ c. sym (limit-allowed _ _ _ (sym (c .before .is-allowed .ensures) ∙ c .if1 .taken)))
+    (λ c. sym (limit-barred _ _ _ (sym (c .before .is-allowed .ensures) ∙ c .if1 .left))))

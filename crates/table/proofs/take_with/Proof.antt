@@ -15,7 +15,7 @@ use Rattle.table.specs.declared.Tally.{Tally}
 use Rattle.table.specs.Tabled.{tallyOf}
 use Rattle.table.specs.Calls.{pairOut, partChecks, takeRest, taken}
 use Rattle.table.proofs.Cells.{cells-sound}
-use Rattle.table.proofs.Bounds.{pair-bounded}
+use Rattle.table.proofs.Bounds.{pair-under}
 use Rattle.table.proofs.Answers.{stop, take-short, take-short-other, take-many, take-many-other, take-pair}
 use Rattle.table.proofs.take_with.Statement.{statement}
 use Rattle.table.proofs.take_with.Tie as tie
@@ -51,7 +51,7 @@ returns-5 c =
 take-part-requires : tie.Need-take-part-requires
 take-part-requires c κs =
     let d = c .before .before .before in
-    let b = pair-bounded (s d .pre) (s d .args .columns) (s d .args .table .now) (s d .args .other-columns) (s d .args .other .now) (omega arith) (omega arith) (fine d (c .before .enum-told .given .1)) in
+    let b = pair-under (s d .pre) (s d .args .columns) (s d .args .table .now) (s d .args .other-columns) (s d .args .other .now) (omega arith) (omega arith) (fine d (c .before .enum-told .given .1)) in
     (s d .pre, ((omega arith, (omega arith, omega arith)), b .1))
 
 returns-6 : tie.Need-returns-6
