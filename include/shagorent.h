@@ -143,8 +143,9 @@ shagorent_reply shagorent_plan(const uint32_t *table, size_t table_length, uint3
 shagorent_reply shagorent_read_back(uint32_t height, uint32_t set, const uint64_t *errors, size_t errors_length, const uint8_t *thicknesses,
                                     size_t thicknesses_length, uint32_t count, int32_t *out, size_t out_length);
 
-/* The error of a given sequence over a table. Refusals 1, 2, 3, 7, 6, 13; the place of 13 is 0 for fewer than two boundaries or a start that is
- * not admissible, k for a layer from boundary k-1 to k that is not, and the index of the last boundary for an end that is not. */
+/* The error of a given sequence over a table. Refusals 1, 2, 3, 7, 6, 13; the place of 13 is 0 for fewer than two boundaries or a start out of
+ * range; then the first index from 1 whose difference from the boundary before is not allowed, which is above N+tmax-1, or whose layer is
+ * over the bound; last, the index of an end below N. */
 shagorent_reply shagorent_recount(const uint32_t *table, size_t table_length, uint32_t height, uint32_t set, uint32_t columns, uint32_t bound,
                                   const int32_t *sequence, size_t sequence_length);
 
