@@ -1,6 +1,6 @@
 -- One thickness more in a row: a last layer is put on the sequences of the row where it starts, for the counts from `first` up to `end`. Each
--- entry becomes the better of two (`errors-inside`, `thicknesses-inside`). With fewer layers those under it would have to be thicker than
--- tmax (`few`), with more thinner than tmin (`many`), so there is no sequence and the entry stays as it is (`out`). Assumes nothing.
+-- entry becomes the better of two (`inside`). With fewer layers those under it would have to be thicker than tmax (`few`), with more
+-- thinner than tmin (`many`), so there is no sequence and the entry stays as it is (`out`). Assumes nothing.
 use Prim.Native.Nat.{ℕ, _+_, _-_, _*_, _≤_, _<_}
 use mathlib.Core.Path.{_≡_, refl, sym, ap, _∙_}
 use mathlib.Core.List.{List}
@@ -29,7 +29,7 @@ use Rattle.plan.proofs.Putting.{error-less, error-keep, thickness-less,
 use Rattle.plan.proofs.Sums.{layer-thick, least-small, sum-most, via-small}
 use Rattle.plan.proofs.Rows.{kept, taken, left, via-permitted}
 
--- a count that no layers of at most tmax are too few for is one of the counts
+-- so many layers of tmax fit under the lowest start of row q, so `first` is one of the counts
 pub first-few : (s : Settings) → Sound s → (q first : ℕ) → q ≤ s .rows → first * s .tmax ≤ q - s .tmax → first ≤ s .counts
 first-few s k q first l u =
     rw (k .counts-are) (le-div-iff-mul-le {k = s .tmin} (k .thin) .1 (omega (arith, mul-le-mul-left first (k .order))))
