@@ -162,7 +162,7 @@ fn refused(reason: Reason, place: u64) -> Pictured
 // Where the settings are in order: 4, 5, 13.
 fn picture_of(column: &[u16], s: Settings, start: i32, thickness: u32) -> Pictured
     requires { ⌜ Sound s ⌝ }
-    ensures { λ r. ⌜ toldPicture r ≡ decided (columnChecks (s .height) (now (column .entry)) ++ layerChecks (s .height) (s .«set») start thickness) (judgement (now (column .entry)) start thickness) ⌝ }
+    ensures { λ r. ⌜ toldPicture r ≡ decided (columnChecks (s .height) (now (column .entry)) ++ layerChecks (s .height) (s .members) start thickness) (judgement (now (column .entry)) start thickness) ⌝ }
 {
     let order = check_column(column, s.height);
     if let Checked::Refused(refusal) = order {
@@ -176,17 +176,17 @@ fn picture_of(column: &[u16], s: Settings, start: i32, thickness: u32) -> Pictur
         return refused(Reason::NotAdmissible, 0);
     }
     let t = thickness as usize;
-    if is_allowed(s.set, t) {
+    if is_allowed(s.members, t) {
         return Pictured::Done(judge(column, h as u16, thickness as u16));
     }
     refused(Reason::NotAdmissible, 1)
 }
 
 // Document 01, 'Picture of a column in a layer': 1, 2, 4, 5, 13.
-pub fn picture(column: &[u16], height: u32, set: u32, start: i32, thickness: u32) -> Pictured
-    ensures { λ r. ⌜ toldPicture r ≡ pictureAnswer height «set» (now (column .entry)) start thickness ⌝ }
+pub fn picture(column: &[u16], height: u32, members: u32, start: i32, thickness: u32) -> Pictured
+    ensures { λ r. ⌜ toldPicture r ≡ pictureAnswer height members (now (column .entry)) start thickness ⌝ }
 {
-    let made = Settings::new(height, set);
+    let made = Settings::new(height, members);
     match made {
         Made::Bad(reason) => refused(reason, 0),
         Made::Good(s) => picture_of(column, s, start, thickness),

@@ -35,11 +35,11 @@ use Rattle.job.proofs.Ordering.{behind-done}
 
 -- what adding a column that can be added leaves and answers
 pub adds-done : (a : Asked) (tally : Tally) (bs : List ℕ) (answer : Told Tally) (old new : List ℕ) → Adds a tally bs answer old new
-    → done (tallyOf (tally .columns + 1)) ≡ addAnswer (a .height) (a .«set») (tally .columns) old bs
-    → (new ≡ added (a .height) (a .«set») old bs) × (answer ≡ done (tallyOf (tally .columns + 1)))
+    → done (tallyOf (tally .columns + 1)) ≡ addAnswer (a .height) (a .members) (tally .columns) old bs
+    → (new ≡ added (a .height) (a .members) old bs) × (answer ≡ done (tallyOf (tally .columns + 1)))
 unfolding addTable
 adds-done a tally bs answer old new p e =
-    (p .leaves ∙ sym (after-done (addAnswer (a .height) (a .«set») (tally .columns) old bs) (tallyOf (tally .columns + 1)) (added (a .height) (a .«set») old bs) old e), p .tells ∙ sym e)
+    (p .leaves ∙ sym (after-done (addAnswer (a .height) (a .members) (tally .columns) old bs) (tallyOf (tally .columns + 1)) (added (a .height) (a .members) old bs) old e), p .tells ∙ sym e)
 
 in-order : (N : ℕ) (xs : List (List ℕ)) (bs : List ℕ) (ys : List (List ℕ)) → InOrder N ((xs ++ (bs ∷ [])) ++ ys) → first (columnChecks N bs) ≡ none
 in-order N [] bs ys o = o .0
@@ -57,24 +57,24 @@ few-boundaries N s start count e =
 pub record Filling (most : ℕ) (s : List ℕ) (a : Asked) (old : List ℕ) (st : State) (at : ℕ) (tally : Tally) (table : List ℕ) : Type 0 where
   pub columns : List (List ℕ)
   pub left : Left most s columns st at
-  pub table-is : table ≡ tableOf (a .height) (a .«set») columns old
+  pub table-is : table ≡ tableOf (a .height) (a .members) columns old
   pub counted : tally .columns ≡ length columns
 
 -- the table stays as long as it was
 pub kept-long : {most : ℕ} {s : List ℕ} {a : Asked} {old : List ℕ} {st : State} {at : ℕ} {tally : Tally} {table : List ℕ}
     → Filling most s a old st at tally table → length table ≡ length old
-kept-long {a = a} {old = old} f = ap (λ (l : List ℕ). length l) (f .table-is) ∙ length-table (a .height) (a .«set») (f .columns) old
+kept-long {a = a} {old = old} f = ap (λ (l : List ℕ). length l) (f .table-is) ∙ length-table (a .height) (a .members) (f .columns) old
 
 -- a file that was looked through is not refused
 pub unrefused : (most : ℕ) (a : Asked) (file : Told Job) → Whole most a file → (r : Refusal) → file ≡ refusal r → ⊥
 unrefused most a file w r e = let q = sym (w .is) ∙ e in let z : _≡_ {A = ℕ} 0 1 = cc in omega arith
 
-module _ (most : ℕ) (s : List ℕ) (a : Asked) (w : Whole most a (jobOf most s)) (old : List ℕ) (room : cells (a .height) (a .«set») ≤ length old) where
+module _ (most : ℕ) (s : List ℕ) (a : Asked) (w : Whole most a (jobOf most s)) (old : List ℕ) (room : cells (a .height) (a .members) ≤ length old) where
   abbrev N : ℕ
   N = a .height
 
   abbrev T : ℕ
-  T = a .«set»
+  T = a .members
 
   by-told : (columns tail : List (List ℕ)) (tally : Tally) (st : State) (at : ℕ) (m : Moved) (t : Told What) → SaysBy s st at m t
       → w .job .columns ≡ (columns ++ columnIn s t) ++ tail → tally .columns ≡ length columns → Addable s a tally (tableOf N T columns old) t
@@ -90,7 +90,7 @@ module _ (most : ℕ) (s : List ℕ) (a : Asked) (w : Whole most a (jobOf most s
         few-boundaries N s start count o,
         p .5,
         subst (λ (c : ℕ). done (tallyOf (c + 1)) ≡ addAnswer N T c (tableOf N T columns old) bs) (sym n)
-            (adds N T columns old room (subst (λ (x : Asked). first (settingsChecks (x .height) (x .«set»)) ≡ none) (w .asks) (w .ordered .fine)) bs o (omega arith)),
+            (adds N T columns old room (subst (λ (x : Asked). first (settingsChecks (x .height) (x .members)) ≡ none) (w .asks) (w .ordered .fine)) bs o (omega arith)),
       )
   by-told columns tail tally st at m (done (ended c)) p e n = tt
   by-told columns tail tally st at m (done remark) p e n = tt

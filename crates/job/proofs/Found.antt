@@ -27,7 +27,7 @@ Ahead s at next = (at + 4 ≤ next) × (next ≤ length s)
 
 abbrev pub SaysBy : List ℕ → State → ℕ → Moved → Told What → Type 0
 SaysBy s st at m (done (What.settings a)) =
-    Ahead s at (m .next) × (st .begun ≡ false) × (m .state ≡ begin st a) × (first (settingsChecks (a .height) (a .«set»)) ≡ none) × (a ≡ asked s at)
+    Ahead s at (m .next) × (st .begun ≡ false) × (m .state ≡ begin st a) × (first (settingsChecks (a .height) (a .members)) ≡ none) × (a ≡ asked s at)
 SaysBy s st at m (done (What.column start count)) =
     Ahead s at (m .next) × (st .begun ≡ true) × (m .state ≡ counted st) × (st .columns < mostColumns)
     × (first (columnChecks (st .asked .height) (words s start count)) ≡ none) × (start + 2 * count ≤ length s)

@@ -60,12 +60,12 @@ module _ (most : ℕ) (s : List ℕ) (at : ℕ) (step : Step) where
     judged-end l rest = by-read _ e rest ∙ simp (le-ltb (step .cursor .at) (length s) l)
 
   module _ (a : Asked) (e : step .read ≡ read.Settings a) where
-    pub judged-large : (h : Heed) → (ltb most (cells (a .height) (a .«set»)) || ltb most (entries (a .height) (a .«set»))) ≡ true
+    pub judged-large : (h : Heed) → (ltb most (cells (a .height) (a .members)) || ltb most (entries (a .height) (a .members))) ≡ true
         → h ≡ heed.Refused (record { reason = reason.TooLarge; place = at }) → Heeded h most s at (toldStep step)
     unfolding sizeChecks
     judged-large h l f = judged h _ f (λ rest. by-read _ e rest ∙ rw l)
 
-    pub judged-small : (ltb most (cells (a .height) (a .«set»)) || ltb most (entries (a .height) (a .«set»))) ≡ false → Heeded heed.Onward most s at (toldStep step)
+    pub judged-small : (ltb most (cells (a .height) (a .members)) || ltb most (entries (a .height) (a .members))) ≡ false → Heeded heed.Onward most s at (toldStep step)
     unfolding sizeChecks
     judged-small l = passed-over _ e tt refl (λ rest. rw l)
 

@@ -29,7 +29,7 @@ module _ (most : ℕ) (a : Asked) (file : Told Job) (w : Whole most a file) (tab
   N = a .height
 
   abbrev T : ℕ
-  T = a .«set»
+  T = a .members
 
   abbrev checks : List (Check Numbered)
   checks = short N T table 1 ∷ []
@@ -39,7 +39,7 @@ module _ (most : ℕ) (a : Asked) (file : Told Job) (w : Whole most a file) (tab
 
   clear-is : clearAnswer N T table ≡ decided checks (tallyOf 0)
   unfolding clearAnswer
-  clear-is = sym (settings-good N T checks (tallyOf 0) (subst (λ (x : Asked). first (settingsChecks (x .height) (x .«set»)) ≡ none) (w .asks) (w .ordered .fine)))
+  clear-is = sym (settings-good N T checks (tallyOf 0) (subst (λ (x : Asked). first (settingsChecks (x .height) (x .members)) ≡ none) (w .asks) (w .ordered .fine)))
 
   load-is : loadAnswer table file ≡ decided checks load
   unfolding loadAnswer
@@ -48,12 +48,12 @@ module _ (most : ℕ) (a : Asked) (file : Told Job) (w : Whole most a file) (tab
       go : (f : Told Job) (job : Job) → f ≡ done job → job .asked ≡ a → loadAnswer table f ≡ decided checks (record { asked = a; tally = tallyOf (length (columnsIn f)) })
       go f job e asks =
           subst (λ (x : Told Job). loadAnswer table x ≡ decided checks (record { asked = a; tally = tallyOf (length (columnsIn x)) })) (sym e)
-          (ap (λ (x : Asked). decided (short (x .height) (x .«set») table 1 ∷ []) (record { asked = x; tally = tallyOf (length (job .columns)) })) asks)
+          (ap (λ (x : Asked). decided (short (x .height) (x .members) table 1 ∷ []) (record { asked = x; tally = tallyOf (length (job .columns)) })) asks)
 
   written-is : writtenBy table file ≡ tableOf N T (columnsIn file) table
   written-is =
       subst (λ (x : Told Job). writtenBy table x ≡ tableOf N T (columnsIn x) table) (sym (w .is))
-      (ap (λ (x : Asked). tableOf (x .height) (x .«set») (w .job .columns) table) (w .asks))
+      (ap (λ (x : Asked). tableOf (x .height) (x .members) (w .job .columns) table) (w .asks))
 
   -- the table is too short
   pub stopped : (r : Refusal) → refusal r ≡ clearAnswer N T table → refusal r ≡ loadAnswer table file

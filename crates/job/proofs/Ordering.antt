@@ -52,10 +52,10 @@ quad-small s byte at = omega (arith, byte at, byte (at + 1), byte (at + 2), byte
 module _ (most : ℕ) (s : List ℕ) (byte : (i : ℕ) → getD s i 0 < 256) where
   -- settings in order, and a table and a sheet that are not too large
   record Asks (a : Asked) : Type 0 where
-    fine : first (settingsChecks (a .height) (a .«set»)) ≡ none
-    few-cells : cells (a .height) (a .«set») ≤ most
-    few-entries : entries (a .height) (a .«set») ≤ most
-    bits : a .«set» < 4_294_967_296
+    fine : first (settingsChecks (a .height) (a .members)) ≡ none
+    few-cells : cells (a .height) (a .members) ≤ most
+    few-entries : entries (a .height) (a .members) ≤ most
+    bits : a .members < 4_294_967_296
     low-bound : a .bound < 4_294_967_296
 
   -- what is known of the state on the way
@@ -71,11 +71,11 @@ module _ (most : ℕ) (s : List ℕ) (byte : (i : ℕ) → getD s i 0 < 256) whe
     few : st .columns + length (job .columns) ≤ mostColumns
     same : st .begun ≡ true → job .asked ≡ st .asked
 
-  small : (at : ℕ) (a : Asked) → first (settingsChecks (a .height) (a .«set»)) ≡ none → a ≡ asked s at → first (sizeChecks most at a) ≡ none → Asks a
+  small : (at : ℕ) (a : Asked) → first (settingsChecks (a .height) (a .members)) ≡ none → a ≡ asked s at → first (sizeChecks most at a) ≡ none → Asks a
   unfolding sizeChecks
   small at a fine is e =
       let q = first-none (sizeChecks most at a) .0 e in
-      let p = or-false (ltb most (cells (a .height) (a .«set»))) (ltb most (entries (a .height) (a .«set»))) (q .0) in
+      let p = or-false (ltb most (cells (a .height) (a .members))) (ltb most (entries (a .height) (a .members))) (q .0) in
       record {
         fine = fine;
         few-cells = ltb-false _ _ (p .0);

@@ -22,7 +22,7 @@ pub record Job : Type 0 where
 
 -- 17: a table or a sheet of these settings has more entries than there is room for
 unfoldable pub sizeChecks : ℕ → ℕ → Asked → List (Check Numbered)
-sizeChecks most at a = check 17 (ltb most (cells (a .height) (a .«set»)) || ltb most (entries (a .height) (a .«set»))) at ∷ []
+sizeChecks most at a = check 17 (ltb most (cells (a .height) (a .members)) || ltb most (entries (a .height) (a .members))) at ∷ []
 
 -- what is told where these checks were asked before
 abbrev pub unless : {X : Type 0} → Option Numbered → Told X → Told X

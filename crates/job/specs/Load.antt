@@ -38,7 +38,7 @@ abbrev pub loadOf : Job → Load
 loadOf job = record { asked = job .asked; tally = tallyOf (length (job .columns)) }
 
 abbrev pub loadBy : List ℕ → Told Job → Told Load
-loadBy table (done job) = decided (short (job .asked .height) (job .asked .«set») table 1 ∷ []) (loadOf job)
+loadBy table (done job) = decided (short (job .asked .height) (job .asked .members) table 1 ∷ []) (loadOf job)
 loadBy table (refused number place) = refused number place
 
 -- THE ANSWER: what the settings ask for, and the column count
@@ -46,7 +46,7 @@ unfoldable pub loadAnswer : List ℕ → Told Job → Told Load
 loadAnswer table file = loadBy table file
 
 abbrev pub writtenBy : List ℕ → Told Job → List ℕ
-writtenBy table (done job) = tableOf (job .asked .height) (job .asked .«set») (job .columns) table
+writtenBy table (done job) = tableOf (job .asked .height) (job .asked .members) (job .columns) table
 writtenBy table (refused number place) = table
 
 -- THE TABLE: that of the file's columns
@@ -57,7 +57,7 @@ loadTable table file = after (loadAnswer table file) (writtenBy table file) tabl
 
 -- the settings of a settings record are in order, whatever else was read
 abbrev pub Sane : Told What → Type 0
-Sane (done (settings a)) = first (settingsChecks (a .height) (a .«set»)) ≡ none
+Sane (done (settings a)) = first (settingsChecks (a .height) (a .members)) ≡ none
 Sane (done (column start count)) = Unit {0}
 Sane (done (ended columns)) = Unit {0}
 Sane (done remark) = Unit {0}
@@ -93,10 +93,10 @@ InOrder N (bs ∷ columns) = (first (columnChecks N bs) ≡ none) × InOrder N c
 
 -- a job whose settings and columns are in order, with a table and a sheet of at most so many entries
 pub record Ordered (most : ℕ) (job : Job) : Type 0 where
-  pub fine : first (settingsChecks (job .asked .height) (job .asked .«set»)) ≡ none
-  pub few-cells : cells (job .asked .height) (job .asked .«set») ≤ most
-  pub few-entries : entries (job .asked .height) (job .asked .«set») ≤ most
-  pub bits : job .asked .«set» < 4_294_967_296
+  pub fine : first (settingsChecks (job .asked .height) (job .asked .members)) ≡ none
+  pub few-cells : cells (job .asked .height) (job .asked .members) ≤ most
+  pub few-entries : entries (job .asked .height) (job .asked .members) ≤ most
+  pub bits : job .asked .members < 4_294_967_296
   pub low-bound : job .asked .bound < 4_294_967_296
   pub order : InOrder (job .asked .height) (job .columns)
   pub few : length (job .columns) ≤ mostColumns
@@ -120,19 +120,19 @@ pub record Whole (most : ℕ) (a : Asked) (file : Told Job) : Type 0 where
 
 -- a column is added, or refused
 pub record Adds (a : Asked) (tally : Tally) (bs : List ℕ) (answer : Told Tally) (old new : List ℕ) : Type 0 where
-  pub tells : answer ≡ addAnswer (a .height) (a .«set») (tally .columns) old bs
-  pub leaves : new ≡ addTable (a .height) (a .«set») (tally .columns) old bs
+  pub tells : answer ≡ addAnswer (a .height) (a .members) (tally .columns) old bs
+  pub leaves : new ≡ addTable (a .height) (a .members) (tally .columns) old bs
 
 -- what was read can be added, where it is a column
 abbrev pub Addable : List ℕ → Asked → Tally → List ℕ → Told What → Type 0
 Addable s a tally table (done (settings b)) = Unit {0}
 Addable s a tally table (done (column start count)) =
     (count ≤ 64) × (start + 2 * count ≤ length s)
-    × (done (tallyOf (tally .columns + 1)) ≡ addAnswer (a .height) (a .«set») (tally .columns) table (words s start count))
+    × (done (tallyOf (tally .columns + 1)) ≡ addAnswer (a .height) (a .members) (tally .columns) table (words s start count))
 Addable s a tally table (done (ended columns)) = Unit {0}
 Addable s a tally table (done remark) = Unit {0}
 Addable s a tally table (refused number place) = Unit {0}
 
 abbrev pub addedAll : Asked → List (List ℕ) → List ℕ → List ℕ
 addedAll a [] table = table
-addedAll a (bs ∷ columns) table = addedAll a columns (added (a .height) (a .«set») table bs)
+addedAll a (bs ∷ columns) table = addedAll a columns (added (a .height) (a .members) table bs)

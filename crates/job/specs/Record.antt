@@ -85,7 +85,7 @@ pub record Found : Type 0 where
   pub state : State
 
 abbrev pub asked : List ℕ → ℕ → Asked
-asked s at = record { height = le16 s (at + 4); «set» = le32 s (at + 4 + 2); bound = le32 s (at + 4 + 6) }
+asked s at = record { height = le16 s (at + 4); members = le32 s (at + 4 + 2); bound = le32 s (at + 4 + 6) }
 
 abbrev pub begin : State → Asked → State
 begin st a = record { begun = true; ended = st .ended; columns = st .columns; asked = a }
@@ -144,7 +144,7 @@ readRecord s st at =
     (cond (ltb (length s - at) 4) (moved st at (refused 16 at)) (recordOf s st at (kindOf (le16 s (at + 2)))))
 
 abbrev pub startState : State
-startState = record { begun = false; ended = false; columns = 0; asked = record { height = 0; «set» = 0; bound = 0 } }
+startState = record { begun = false; ended = false; columns = 0; asked = record { height = 0; members = 0; bound = 0 } }
 
 -- ---- what a step tells, in document 01's numbers
 

@@ -33,7 +33,7 @@ use table::clear_table;
 // What a settings record asks for.
 pub struct Asked {
     pub height: u32,
-    pub set: u32,
+    pub members: u32,
     pub bound: u32,
 }
 
@@ -52,7 +52,7 @@ impl State {
     {
         let asked = Asked {
             height: 0,
-            set: 0,
+            members: 0,
             bound: 0,
         };
         State {
@@ -174,13 +174,17 @@ impl Cursor {
             return self.faulted(state, Reason::Malformed);
         }
         let height = word(input, start) as u32;
-        let set = quad(input, start + 2);
+        let members = quad(input, start + 2);
         let bound = quad(input, start + 6);
-        let made = Settings::new(height, set);
+        let made = Settings::new(height, members);
         match made {
             Made::Bad(reason) => self.faulted(state, reason),
             Made::Good(_) => {
-                let asked = Asked { height, set, bound };
+                let asked = Asked {
+                    height,
+                    members,
+                    bound,
+                };
                 self.at = start + len;
                 state.begun = true;
                 state.asked = asked;
@@ -354,10 +358,10 @@ pub enum Loaded {
 
 // Whether a table or a sheet of these settings has more than so many entries.
 fn is_large(asked: Asked, most: usize) -> bool
-    requires { ⌜ first (settingsChecks (asked .height) (asked .«set»)) ≡ none ⌝ }
-    ensures { λ r. ⌜ r ≡ (ltb most (cells (asked .height) (asked .«set»)) || ltb most (entries (asked .height) (asked .«set»))) ⌝ }
+    requires { ⌜ first (settingsChecks (asked .height) (asked .members)) ≡ none ⌝ }
+    ensures { λ r. ⌜ r ≡ (ltb most (cells (asked .height) (asked .members)) || ltb most (entries (asked .height) (asked .members))) ⌝ }
 {
-    let made = Settings::new(asked.height, asked.set);
+    let made = Settings::new(asked.height, asked.members);
     match made {
         Made::Bad(_) => false,
         Made::Good(s) => {
@@ -445,7 +449,7 @@ fn add_decoded(
     ensures { λ r. ⌜ Adds asked tally (words (now (input .entry)) start (length (now (out .entry)))) (toldTable r) (now (table .entry)) (now (table .exit)) ⌝ }
 {
     decode(input, start, out);
-    add_column(table, asked.height, asked.set, tally, out)
+    add_column(table, asked.height, asked.members, tally, out)
 }
 
 // Adds the column of `count` boundaries at `start`.
@@ -491,8 +495,8 @@ fn add_read(input: &[u8], read: Read, asked: Asked, tally: Tally, table: &mut [u
 // Adds the columns of a file that was looked through to a table that was cleared.
 fn fill(input: &[u8], most: usize, asked: Asked, table: &mut [u32]) -> Tally
     requires { ⌜ Whole most asked (jobOf most (now input)) ⌝ }
-    requires { ⌜ (cells (asked .height) (asked .«set») ≤ length (now table)) × (now table ≡ tableOf (asked .height) (asked .«set») [] (now table)) ⌝ }
-    ensures { λ r. ⌜ (now (table .exit) ≡ tableOf (asked .height) (asked .«set») (columnsIn (jobOf most (now (input .entry)))) (now (table .entry)))
+    requires { ⌜ (cells (asked .height) (asked .members) ≤ length (now table)) × (now table ≡ tableOf (asked .height) (asked .members) [] (now table)) ⌝ }
+    ensures { λ r. ⌜ (now (table .exit) ≡ tableOf (asked .height) (asked .members) (columnsIn (jobOf most (now (input .entry)))) (now (table .entry)))
         × (r .columns ≡ length (columnsIn (jobOf most (now (input .entry))))) ⌝ }
 {
     let mut cursor = Cursor::new();
@@ -525,7 +529,7 @@ fn load_whole(input: &[u8], most: usize, asked: Asked, table: &mut [u32]) -> Loa
     ensures { λ r. ⌜ (toldLoad r ≡ loadAnswer (now (table .entry)) (jobOf most (now (input .entry))))
         × (now (table .exit) ≡ loadTable (now (table .entry)) (jobOf most (now (input .entry)))) ⌝ }
 {
-    let cleared = clear_table(table, asked.height, asked.set);
+    let cleared = clear_table(table, asked.height, asked.members);
     match cleared {
         Tabled::Refused(refusal) => Loaded::Refused(refusal),
         Tabled::Done(_) => {

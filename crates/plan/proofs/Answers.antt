@@ -104,9 +104,9 @@ module _ (N T : ℕ) (errors thicknesses : List ℕ) (n : ℕ) (old : List ℤ) 
       leaves answer old (e ∙ settings-bad N T (sheetChecks N T errors thicknesses n (length old)) (leastEntry N T errors n) reason m) (rw e)
 
   pub read-good : (s : Settings) (answer : Told ℕ) (new : List ℤ) → Passed (Good s) N T
-      → Answered (sheetChecks (s .height) (s .«set») errors thicknesses n (length old)) (s .height) (s .«set») errors thicknesses n answer old new
+      → Answered (sheetChecks (s .height) (s .members) errors thicknesses n (length old)) (s .height) (s .members) errors thicknesses n answer old new
       → (answer ≡ readAnswer N T errors thicknesses n (length old)) × (new ≡ readOut N T errors thicknesses n old)
   unfolding readAnswer readChecks
   read-good s answer new p a =
-      let b = subst (λ (s : Settings). Answered (sheetChecks (s .height) (s .«set») errors thicknesses n (length old)) (s .height) (s .«set») errors thicknesses n answer old new) (p .1) a in
+      let b = subst (λ (s : Settings). Answered (sheetChecks (s .height) (s .members) errors thicknesses n (length old)) (s .height) (s .members) errors thicknesses n answer old new) (p .1) a in
       leaves answer new (b .tells ∙ settings-good N T (sheetChecks N T errors thicknesses n (length old)) (leastEntry N T errors n) (p .0)) (b .leaves)

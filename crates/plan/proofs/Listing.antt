@@ -26,27 +26,27 @@ module _ (s : Settings) (bound : ℕ) (table : List ℕ) (ready : Ready s table)
   p = rulesOf s bound table
 
   -- the sheet that a plan leaves is one
-  pub planned-is : (old errors : List ℕ) → s .entries ≤ length old → errors ≡ plannedErrors (s .height) (s .«set») p old → Planned s p errors
+  pub planned-is : (old errors : List ℕ) → s .entries ≤ length old → errors ≡ plannedErrors (s .height) (s .members) p old → Planned s p errors
   unfolding plannedErrors
   planned-is old errors l e = record {
-    whole = omega (arith, ap length e, length-rewritten (λ i x. errorEntry (s .height) (s .«set») p i) (entries (s .height) (s .«set»)) old);
+    whole = omega (arith, ap length e, length-rewritten (λ i x. errorEntry (s .height) (s .members) p i) (entries (s .height) (s .members)) old);
     entries-are =
         λ i u.
         rw e
-        (rewritten-at (λ j x. errorEntry (s .height) (s .«set») p j) (entries (s .height) (s .«set»)) old i 0 (omega (arith, entries-is s (ready .sound))) (omega arith));
+        (rewritten-at (λ j x. errorEntry (s .height) (s .members) p j) (entries (s .height) (s .members)) old i 0 (omega (arith, entries-is s (ready .sound))) (omega arith));
   }
 
   module _ (errors : List ℕ) (planned : Planned s p errors) where
     -- the best of the end heights is the top of the chosen sequence
-    pub end-is : (n : ℕ) → n ≤ s .counts → endOf (s .height) (s .«set») errors n ≡ top p n
+    pub end-is : (n : ℕ) → n ≤ s .counts → endOf (s .height) (s .members) errors n ≡ top p n
     unfolding endOf top planRules errorEntry
     end-is n l =
-        best-same (λ h. unmark (entry (s .height) (s .«set») errors n h)) (λ h. least p n h) (s .height + 32) (tmax (s .«set»))
+        best-same (λ h. unmark (entry (s .height) (s .members) errors n h)) (λ h. least p n h) (s .height + 32) (tmax (s .members))
         (λ h a b.
         ap unmark
-        (entry-is (s .height) (s .«set») errors (λ m g. mark (least p m g)) (ready .sound .low) (λ i u. planned .entries-are i (omega (arith, entries-is s (ready .sound)))) n h (omega (arith, counts-is s (ready .sound))) (omega (arith, ready .sound .low)) b)
+        (entry-is (s .height) (s .members) errors (λ m g. mark (least p m g)) (ready .sound .low) (λ i u. planned .entries-are i (omega (arith, entries-is s (ready .sound)))) n h (omega (arith, counts-is s (ready .sound))) (omega (arith, ready .sound .low)) b)
         ∙ unmark-mark (least p n h) (least-small s bound table ready n h l (omega (arith, ready .sound .greatest))))
 
-    pub listed : (n : ℕ) → n ≤ s .counts → mark (value (endOf (s .height) (s .«set») errors n)) ≡ mark (leastOf p n)
+    pub listed : (n : ℕ) → n ≤ s .counts → mark (value (endOf (s .height) (s .members) errors n)) ≡ mark (leastOf p n)
     unfolding leastOf
     listed n l = ap (λ (b : Best). mark (value b)) (end-is n l)

@@ -14,14 +14,14 @@ use Rattle.plate.specs.declared.settings.Settings.{Settings}
 use Rattle.sequence.specs.Sheets.{entry}
 
 module _ (s : Settings) (sound : Sound s) where
-  pub counts-is : s .counts ≡ M (s .height) (s .«set»)
+  pub counts-is : s .counts ≡ M (s .height) (s .members)
   unfolding M
   counts-is = sound .counts-are ∙ rw (sound .rows-are, sound .greatest, sound .least)
 
-  pub entries-is : s .entries ≡ entries (s .height) (s .«set»)
+  pub entries-is : s .entries ≡ entries (s .height) (s .members)
   unfolding entries heights
   entries-is =
-      let e : s .rows + 1 ≡ s .height + 2 * tmax (s .«set») - 1 =
+      let e : s .rows + 1 ≡ s .height + 2 * tmax (s .members) - 1 =
       omega (arith, sound .rows-are, sound .greatest, sound .low, sound .thin, sound .order) in
       sound .entries-are ∙ rw (e, counts-is)
 
@@ -33,7 +33,7 @@ module _ (s : Settings) (sound : Sound s) where
   place-in m h l a b =
       rw (sound .entries-are) (digits-lt (omega (arith, sound .rows-are, sound .low, sound .thin, sound .order)) (omega arith))
 
-  pub entry-at : (sheet : List ℕ) (m h : ℕ) → getD sheet ((h + s .tmax - 33) * (s .counts + 1) + m) 0 ≡ entry (s .height) (s .«set») sheet m h
+  pub entry-at : (sheet : List ℕ) (m h : ℕ) → getD sheet ((h + s .tmax - 33) * (s .counts + 1) + m) 0 ≡ entry (s .height) (s .members) sheet m h
   unfolding entry
   entry-at sheet m h = rw (sound .greatest, counts-is)
 
@@ -45,5 +45,5 @@ module _ (s : Settings) (sound : Sound s) where
   end-in n k l b = rw (end-row k) at (place-in n (s .height + 32 + k) l (omega (arith, sound .low)) (omega arith))
 
   pub end-at : (sheet : List ℕ) (n k : ℕ)
-      → getD sheet ((s .height + s .tmax - 1 + k) * (s .counts + 1) + n) 0 ≡ entry (s .height) (s .«set») sheet n (s .height + 32 + k)
+      → getD sheet ((s .height + s .tmax - 1 + k) * (s .counts + 1) + n) 0 ≡ entry (s .height) (s .members) sheet n (s .height + 32 + k)
   end-at sheet n k = rw (end-row k) at (entry-at sheet n (s .height + 32 + k))

@@ -71,6 +71,6 @@ module _ (N T c : ℕ) (table : List ℕ) (lent : Sheets) where
               (ltb-false mostColumns c (q .0), ltb-false (firstOut N T c table) (cells N T) (q .1 .0))
 
 -- a table that passes is ready to be planned
-pub ready : (s : Settings) → Sound s → (c : ℕ) (table : List ℕ) → s .cells ≤ length table → (c ≤ mostColumns) × (cells (s .height) (s .«set») ≤ firstOut (s .height) (s .«set») c table)
+pub ready : (s : Settings) → Sound s → (c : ℕ) (table : List ℕ) → s .cells ≤ length table → (c ≤ mostColumns) × (cells (s .height) (s .members) ≤ firstOut (s .height) (s .members) c table)
     → Ready s table
 ready s k c table room b = record { sound = k; size = room; small = table-under k c table (b .0) (b .1) }

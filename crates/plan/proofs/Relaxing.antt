@@ -43,7 +43,7 @@ pub record Relaxing (table : List ℕ) (bound q t : ℕ) (E F : List ℕ) (first
   pub first-low : first * s .tmax ≤ q - s .tmax
   pub end-few : end ≤ s .counts
   pub end-past : (m : ℕ) → end ≤ m → m < s .counts → q - t < m * s .tmin
-  pub cell-is : cell ≡ cellFrom (s .«set») table (q - t + 33 - s .tmax) t
+  pub cell-is : cell ≡ cellFrom (s .members) table (q - t + 33 - s .tmax) t
 
 module _ {table : List ℕ} {bound q t : ℕ} {E F : List ℕ} {first end cell : ℕ} {s : Settings} (r : Relaxing table bound q t E F first end cell s) where
   abbrev p : Rules

@@ -103,19 +103,19 @@ module _ (s : Settings) (bound : ℕ) (table : List ℕ) (ready : Ready s table)
   start-low q l =
       let g = ready .sound .greatest in
       let k = ready .sound .thick in
-      rw (lt-ltb 32 (q + 33 - s .tmax + tmax (s .«set»)) (omega arith), le-leb (q + 33 - s .tmax) 32 (omega arith))
+      rw (lt-ltb 32 (q + 33 - s .tmax + tmax (s .members)) (omega arith), le-leb (q + 33 - s .tmax) 32 (omega arith))
 
   start-high : (q : ℕ) → s .tmax ≤ q → bestTo p 0 (q + 33 - s .tmax) 0 ≡ nothing
   unfolding bestTo planRules
   start-high q l =
       let g = ready .sound .greatest in
       let k = ready .sound .thick in
-      rw (lt-ltb 32 (q + 33 - s .tmax + tmax (s .«set»)) (omega arith), lt-leb (q + 33 - s .tmax) 32 (omega arith))
+      rw (lt-ltb 32 (q + 33 - s .tmax + tmax (s .members)) (omega arith), lt-leb (q + 33 - s .tmax) 32 (omega arith))
 
   -- and by all thicknesses
   whole-value : (m h : ℕ) → value (bestTo p m h (s .tmax)) ≡ least p m h
   unfolding bestTo least planRules
-  whole-value zero h = go (ltb 32 (h + tmax (s .«set»)) && leb h 32)
+  whole-value zero h = go (ltb 32 (h + tmax (s .members)) && leb h 32)
     where
       go : (b : Bool) → value (cond b (found 0 0) nothing) ≡ cond b (some 0) none
       go true = refl
@@ -124,7 +124,7 @@ module _ (s : Settings) (bound : ℕ) (table : List ℕ) (ready : Ready s table)
 
   whole-place : (m h : ℕ) → place (bestTo p m h (s .tmax)) ≡ last p m h
   unfolding bestTo last planRules
-  whole-place zero h = go (ltb 32 (h + tmax (s .«set»)) && leb h 32)
+  whole-place zero h = go (ltb 32 (h + tmax (s .members)) && leb h 32)
     where
       go : (b : Bool) → place (cond b (found 0 0) nothing) ≡ 0
       go true = refl
@@ -157,7 +157,7 @@ module _ (s : Settings) (bound : ℕ) (table : List ℕ) (ready : Ready s table)
       (zero-left : Span 0 (q * (s .counts + 1)) (s .counts + 1) (λ m x. 0) F₀ F) where
     zero-is : (m : ℕ) → 0 ≡ place (bestTo p m (q + 33 - s .tmax) 0)
     unfolding bestTo bestOf planRules
-    zero-is zero = go (ltb 32 (q + 33 - s .tmax + tmax (s .«set»)) && leb (q + 33 - s .tmax) 32)
+    zero-is zero = go (ltb 32 (q + 33 - s .tmax + tmax (s .members)) && leb (q + 33 - s .tmax) 32)
       where
         go : (b : Bool) → 0 ≡ place (cond b (found 0 0) nothing)
         go true = refl
@@ -220,11 +220,11 @@ module _ (s : Settings) (bound : ℕ) (table : List ℕ) (ready : Ready s table)
   }
 
   pub sheet-whole : {E₀ F₀ E F : List ℕ} (q : ℕ) → SheetTo s p q E₀ F₀ E F → q ≡ s .rows + 1
-      → (E ≡ plannedErrors (s .height) (s .«set») p E₀) × (F ≡ plannedThicknesses (s .height) (s .«set») p F₀)
+      → (E ≡ plannedErrors (s .height) (s .members) p E₀) × (F ≡ plannedThicknesses (s .height) (s .members) p F₀)
   unfolding plannedErrors plannedThicknesses errorEntry thicknessEntry
   sheet-whole {E₀} {F₀} {E} {F} q t e =
       let w = counts-is s (ready .sound) in
       let g = ready .sound .greatest in
-      let n : q * (s .counts + 1) ≡ entries (s .height) (s .«set») =
+      let n : q * (s .counts + 1) ≡ entries (s .height) (s .members) =
       ap (λ (x : ℕ). x * (s .counts + 1)) e ∙ sym (ready .sound .entries-are) ∙ entries-is s (ready .sound) in
       (rw (← w, ← g) (span-is _ _ (t .errors-are) (omega arith) (omega arith)), rw (← w, ← g) (span-is _ _ (t .thicknesses-are) (omega arith) (omega arith)))

@@ -35,19 +35,19 @@ module _ (s : Settings) (bound : ℕ) (table : List ℕ) (ready : Ready s table)
       let r = ready .sound in
       let row = h - t + s .tmax - 33 in
       let i = cell-in r row (omega (arith, r .rows-are, r .low, l .thick, l .above, r .thin, r .order)) (t - 1) (omega (arith, l .thick, l .thin, r .greatest)) in
-      omega (arith, ready .small .are (row * s .tmax + (t - 1)) i, cell-read (s .«set») (s .tmax) table row (h - t) t (r .greatest) refl)
+      omega (arith, ready .small .are (row * s .tmax + (t - 1)) i, cell-read (s .members) (s .tmax) table row (h - t) t (r .greatest) refl)
 
   -- a permitted thickness is one from tmin to tmax
   layer-of : (h t : ℕ) → t ≤ h → p .may (h - t) t ≡ true → Layer p h t
   unfolding planRules
   layer-of h t l e =
-      let a = shape-allowed _ _ _ _ (and-true (shape (s .height) (s .«set») (h - t) t) (leb (cellFrom (s .«set») table (h - t) t) bound) e .0) in
+      let a = shape-allowed _ _ _ _ (and-true (shape (s .height) (s .members) (h - t) t) (leb (cellFrom (s .members) table (h - t) t) bound) e .0) in
       record { thick = allowed-from _ t a; thin = allowed-tmax _ t a; above = l; allowed = e }
 
   pub layer-thick : (h t : ℕ) → Layer p h t → s .tmin ≤ t
   unfolding planRules
   layer-thick h t l =
-      let a = shape-allowed _ _ _ _ (and-true (shape (s .height) (s .«set») (h - t) t) (leb (cellFrom (s .«set») table (h - t) t) bound) (l .allowed) .0) in
+      let a = shape-allowed _ _ _ _ (and-true (shape (s .height) (s .members) (h - t) t) (leb (cellFrom (s .members) table (h - t) t) bound) (l .allowed) .0) in
       omega (arith, ready .sound .least, tmin-least _ t a .1)
 
   pub sum-most : (m h e : ℕ) → h < s .height + 32 + s .tmax → least p m h ≡ some e → e ≤ m * 16_000_000

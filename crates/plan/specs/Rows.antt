@@ -15,7 +15,7 @@ use Rattle.plan.specs.Planning.{planRules, bestTo}
 
 -- the rules that a table is planned by, as the code has the settings
 abbrev pub rulesOf : Settings → ℕ → List ℕ → Rules
-rulesOf s bound table = planRules (s .height) (s .«set») bound table
+rulesOf s bound table = planRules (s .height) (s .members) bound table
 
 -- the entries of row q and count m by last layers of at most k
 unfoldable pub errorTo : Settings → Rules → ℕ → ℕ → ℕ → ℕ
@@ -51,4 +51,4 @@ pub record SheetTo (s : Settings) (p : Rules) (q : ℕ) (errors-before thickness
 -- an error sheet that a plan filled
 pub record Planned (s : Settings) (p : Rules) (errors : List ℕ) : Type 0 where
   pub whole : s .entries ≤ length errors
-  pub entries-are : (i : ℕ) → i < s .entries → getD errors i 0 ≡ errorEntry (s .height) (s .«set») p i
+  pub entries-are : (i : ℕ) → i < s .entries → getD errors i 0 ≡ errorEntry (s .height) (s .members) p i

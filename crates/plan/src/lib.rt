@@ -49,8 +49,8 @@ pub enum Walk {
 fn end_of(errors: &[u64], s: Settings, n: usize) -> End
     requires { ⌜ Sound s ⌝ }
     requires { ⌜ (s .entries ≤ length (now errors)) × (n ≤ s .counts) ⌝ }
-    ensures { λ r. ⌜ (r .error ≡ mark (value (endOf (s .height) (s .«set») (now (errors .entry)) n)))
-        × (r .top ≡ place (endOf (s .height) (s .«set») (now (errors .entry)) n)) ⌝ }
+    ensures { λ r. ⌜ (r .error ≡ mark (value (endOf (s .height) (s .members) (now (errors .entry)) n)))
+        × (r .top ≡ place (endOf (s .height) (s .members) (now (errors .entry)) n)) ⌝ }
 {
     let first = s.height + s.tmax - 1;
     let width = s.counts + 1;
@@ -73,7 +73,7 @@ fn end_of(errors: &[u64], s: Settings, n: usize) -> End
 fn thickness_at(thicknesses: &[u8], s: Settings, h: usize, m: usize) -> usize
     requires { ⌜ Sound s ⌝ }
     requires { ⌜ Within s (length (now thicknesses)) m h ⌝ }
-    ensures { λ r. ⌜ r ≡ entry (s .height) (s .«set») (now (thicknesses .entry)) m h ⌝ }
+    ensures { λ r. ⌜ r ≡ entry (s .height) (s .members) (now (thicknesses .entry)) m h ⌝ }
 {
     thicknesses[(h + s.tmax - 33) * (s.counts + 1) + m] as usize
 }
@@ -84,14 +84,14 @@ fn walk_down(thicknesses: &[u8], s: Settings, n: usize, top: usize, heights: &mu
     requires { ⌜ Sound s ⌝ }
     requires { ⌜ Within s (length (now thicknesses)) n top ⌝ }
     requires { ⌜ n < length (now heights) ⌝ }
-    ensures { λ r. ⌜ Walked (entry (s .height) (s .«set») (now (thicknesses .entry))) (s .«set») n top r (now (heights .exit)) ⌝ }
+    ensures { λ r. ⌜ Walked (entry (s .height) (s .members) (now (thicknesses .entry))) (s .members) n top r (now (heights .exit)) ⌝ }
 {
     let mut h = top;
     let mut k = n;
     while 0 < k {
         heights[k] = h as u16;
         let t = thickness_at(thicknesses, s, h, k);
-        if !is_allowed(s.set, t) {
+        if !is_allowed(s.members, t) {
             return Walk::Fault(k);
         }
         if h + s.tmax < 33 + t {
@@ -130,8 +130,8 @@ fn read_entries(
 ) -> Answer
     requires { ⌜ Sound s ⌝ }
     requires { ⌜ Roomy s (length (now errors)) (length (now thicknesses)) n (length (now out)) ⌝ }
-    ensures { λ r. ⌜ Answered (entryChecks (s .height) (s .«set») (now (errors .entry)) (now (thicknesses .entry)) n)
-        (s .height) (s .«set») (now (errors .entry)) (now (thicknesses .entry)) n (told r) (now (out .entry)) (now (out .exit)) ⌝ }
+    ensures { λ r. ⌜ Answered (entryChecks (s .height) (s .members) (now (errors .entry)) (now (thicknesses .entry)) n)
+        (s .height) (s .members) (now (errors .entry)) (now (thicknesses .entry)) n (told r) (now (out .entry)) (now (out .exit)) ⌝ }
 {
     let end = end_of(errors, s, n);
     if end.error == NONE {
@@ -149,9 +149,9 @@ fn read_entries(
 // Where the settings are in order: 3, 10, 3, and then 11, 12.
 fn read_sheets(errors: &[u64], thicknesses: &[u8], s: Settings, n: usize, out: &mut [i32]) -> Answer
     requires { ⌜ Sound s ⌝ }
-    ensures { λ r. ⌜ Answered (roomChecks (s .height) (s .«set») (now (errors .entry)) (now (thicknesses .entry)) n (length (now (out .entry)))
-        ++ entryChecks (s .height) (s .«set») (now (errors .entry)) (now (thicknesses .entry)) n)
-        (s .height) (s .«set») (now (errors .entry)) (now (thicknesses .entry)) n (told r) (now (out .entry)) (now (out .exit)) ⌝ }
+    ensures { λ r. ⌜ Answered (roomChecks (s .height) (s .members) (now (errors .entry)) (now (thicknesses .entry)) n (length (now (out .entry)))
+        ++ entryChecks (s .height) (s .members) (now (errors .entry)) (now (thicknesses .entry)) n)
+        (s .height) (s .members) (now (errors .entry)) (now (thicknesses .entry)) n (told r) (now (out .entry)) (now (out .exit)) ⌝ }
 {
     if errors.len() < s.entries {
         return refused(Reason::ShortBuffer, 1);
@@ -174,16 +174,16 @@ fn read_sheets(errors: &[u64], thicknesses: &[u8], s: Settings, n: usize, out: &
 // Document 01, 'Read a sequence back from two sheets': 1, 2, 3, 10, 3, 11, 12.
 pub fn read_back(
     height: u32,
-    set: u32,
+    members: u32,
     errors: &[u64],
     thicknesses: &[u8],
     count: u32,
     out: &mut [i32],
 ) -> Answer
-    ensures { λ r. ⌜ (told r ≡ readAnswer height «set» (now (errors .entry)) (now (thicknesses .entry)) count (length (now (out .entry))))
-        × (now (out .exit) ≡ readOut height «set» (now (errors .entry)) (now (thicknesses .entry)) count (now (out .entry))) ⌝ }
+    ensures { λ r. ⌜ (told r ≡ readAnswer height members (now (errors .entry)) (now (thicknesses .entry)) count (length (now (out .entry))))
+        × (now (out .exit) ≡ readOut height members (now (errors .entry)) (now (thicknesses .entry)) count (now (out .entry))) ⌝ }
 {
-    let made = Settings::new(height, set);
+    let made = Settings::new(height, members);
     match made {
         Made::Bad(reason) => refused(reason, 0),
         Made::Good(s) => read_sheets(errors, thicknesses, s, count as usize, out),
@@ -194,7 +194,7 @@ pub fn read_back(
 fn cell_at(table: &[u32], s: Settings, start: usize, t: usize) -> u32
     requires { ⌜ Ready s (now table) ⌝ }
     requires { ⌜ (start < s .rows) × (1 ≤ t) × (t ≤ s .tmax) ⌝ }
-    ensures { λ r. ⌜ r ≡ cellFrom (s .«set») (now (table .entry)) (start + 33 - s .tmax) t ⌝ }
+    ensures { λ r. ⌜ r ≡ cellFrom (s .members) (now (table .entry)) (start + 33 - s .tmax) t ⌝ }
 {
     table[start * s.tmax + (t - 1)]
 }
@@ -205,7 +205,7 @@ fn may_use(table: &[u32], s: Settings, bound: u32, start: usize, t: usize) -> bo
     requires { ⌜ (start < s .rows) × (1 ≤ t) × (t ≤ s .tmax) ⌝ }
     ensures { λ r. ⌜ r ≡ rulesOf s bound (now (table .entry)) .may (start + 33 - s .tmax) t ⌝ }
 {
-    if !is_allowed(s.set, t) {
+    if !is_allowed(s.members, t) {
         return false;
     }
     cell_at(table, s, start, t) <= bound
@@ -454,8 +454,8 @@ fn fill_row(
 fn fill_sheets(table: &[u32], s: Settings, bound: u32, errors: &mut [u64], thicknesses: &mut [u8])
     requires { ⌜ Ready s (now table) ⌝ }
     requires { ⌜ (s .entries ≤ length (now errors)) × (s .entries ≤ length (now thicknesses)) ⌝ }
-    ensures { λ _. ⌜ now (errors .exit) ≡ plannedErrors (s .height) (s .«set») (planRules (s .height) (s .«set») bound (now (table .entry))) (now (errors .entry)) ⌝ }
-    ensures { λ _. ⌜ now (thicknesses .exit) ≡ plannedThicknesses (s .height) (s .«set») (planRules (s .height) (s .«set») bound (now (table .entry))) (now (thicknesses .entry)) ⌝ }
+    ensures { λ _. ⌜ now (errors .exit) ≡ plannedErrors (s .height) (s .members) (planRules (s .height) (s .members) bound (now (table .entry))) (now (errors .entry)) ⌝ }
+    ensures { λ _. ⌜ now (thicknesses .exit) ≡ plannedThicknesses (s .height) (s .members) (planRules (s .height) (s .members) bound (now (table .entry))) (now (thicknesses .entry)) ⌝ }
 {
     let mut q = 0;
     while q <= s.rows {
@@ -469,7 +469,7 @@ fn fill_list(table: &[u32], s: Settings, bound: u32, errors: &[u64], list: &mut 
     requires { ⌜ Ready s (now table) ⌝ }
     requires { ⌜ Planned s (rulesOf s bound (now table)) (now errors) ⌝ }
     requires { ⌜ s .counts ≤ length (now list) ⌝ }
-    ensures { λ _. ⌜ now (list .exit) ≡ plannedList (s .height) (s .«set») (rulesOf s bound (now (table .entry))) (now (list .entry)) ⌝ }
+    ensures { λ _. ⌜ now (list .exit) ≡ plannedList (s .height) (s .members) (rulesOf s bound (now (table .entry))) (now (list .entry)) ⌝ }
 {
     let mut i = 0;
     while i < s.counts {
@@ -489,9 +489,9 @@ fn plan_sheets(
 )
     requires { ⌜ Ready s (now table) ⌝ }
     requires { ⌜ (s .entries ≤ length (now errors)) × (s .entries ≤ length (now thicknesses)) × (s .counts ≤ length (now list)) ⌝ }
-    ensures { λ _. ⌜ now (errors .exit) ≡ plannedErrors (s .height) (s .«set») (planRules (s .height) (s .«set») bound (now (table .entry))) (now (errors .entry)) ⌝ }
-    ensures { λ _. ⌜ now (thicknesses .exit) ≡ plannedThicknesses (s .height) (s .«set») (planRules (s .height) (s .«set») bound (now (table .entry))) (now (thicknesses .entry)) ⌝ }
-    ensures { λ _. ⌜ now (list .exit) ≡ plannedList (s .height) (s .«set») (planRules (s .height) (s .«set») bound (now (table .entry))) (now (list .entry)) ⌝ }
+    ensures { λ _. ⌜ now (errors .exit) ≡ plannedErrors (s .height) (s .members) (planRules (s .height) (s .members) bound (now (table .entry))) (now (errors .entry)) ⌝ }
+    ensures { λ _. ⌜ now (thicknesses .exit) ≡ plannedThicknesses (s .height) (s .members) (planRules (s .height) (s .members) bound (now (table .entry))) (now (thicknesses .entry)) ⌝ }
+    ensures { λ _. ⌜ now (list .exit) ≡ plannedList (s .height) (s .members) (planRules (s .height) (s .members) bound (now (table .entry))) (now (list .entry)) ⌝ }
 {
     fill_sheets(table, s, bound, errors, thicknesses);
     fill_list(table, s, bound, errors, list);
@@ -508,8 +508,8 @@ fn plan_with(
     list: &mut [u64],
 ) -> Answer
     requires { ⌜ Sound s ⌝ }
-    requires { ⌜ first (settingsChecks (s .height) (s .«set»)) ≡ none ⌝ }
-    ensures { λ r. ⌜ Fills (planRest (s .height) (s .«set») (tally .columns) (now (table .entry)) (sheetsOf (now (errors .entry)) (now (thicknesses .entry)) (now (list .entry)))) (s .height) (s .«set») bound (now (table .entry)) (told r)
+    requires { ⌜ first (settingsChecks (s .height) (s .members)) ≡ none ⌝ }
+    ensures { λ r. ⌜ Fills (planRest (s .height) (s .members) (tally .columns) (now (table .entry)) (sheetsOf (now (errors .entry)) (now (thicknesses .entry)) (now (list .entry)))) (s .height) (s .members) bound (now (table .entry)) (told r)
         (sheetsOf (now (errors .entry)) (now (thicknesses .entry)) (now (list .entry))) (sheetsOf (now (errors .exit)) (now (thicknesses .exit)) (now (list .exit))) ⌝ }
 {
     if table.len() < s.cells {
@@ -524,7 +524,7 @@ fn plan_with(
     if list.len() < s.counts {
         return refused(Reason::ShortBuffer, 4);
     }
-    let checked = check_table(table, s.height as u32, s.set, tally);
+    let checked = check_table(table, s.height as u32, s.members, tally);
     if let Checked::Refused(refusal) = checked {
         return Answer::Refused(refusal);
     }
@@ -536,17 +536,17 @@ fn plan_with(
 pub fn plan(
     table: &[u32],
     height: u32,
-    set: u32,
+    members: u32,
     tally: Tally,
     bound: u32,
     errors: &mut [u64],
     thicknesses: &mut [u8],
     list: &mut [u64],
 ) -> Answer
-    ensures { λ r. ⌜ (told r ≡ planAnswer height «set» (tally .columns) (now (table .entry)) (sheetsOf (now (errors .entry)) (now (thicknesses .entry)) (now (list .entry))))
-        × (sheetsOf (now (errors .exit)) (now (thicknesses .exit)) (now (list .exit)) ≡ planSheets height «set» (tally .columns) (now (table .entry)) bound (sheetsOf (now (errors .entry)) (now (thicknesses .entry)) (now (list .entry)))) ⌝ }
+    ensures { λ r. ⌜ (told r ≡ planAnswer height members (tally .columns) (now (table .entry)) (sheetsOf (now (errors .entry)) (now (thicknesses .entry)) (now (list .entry))))
+        × (sheetsOf (now (errors .exit)) (now (thicknesses .exit)) (now (list .exit)) ≡ planSheets height members (tally .columns) (now (table .entry)) bound (sheetsOf (now (errors .entry)) (now (thicknesses .entry)) (now (list .entry)))) ⌝ }
 {
-    let made = Settings::new(height, set);
+    let made = Settings::new(height, members);
     match made {
         Made::Bad(reason) => refused(reason, 0),
         Made::Good(s) => plan_with(table, s, tally, bound, errors, thicknesses, list),

@@ -47,7 +47,7 @@ sound N T s =
 abbrev pub madeOf : ℕ → ℕ → ℕ → ℕ → Settings
 madeOf N T lo hi = record {
   height = N;
-  «set» = T;
+  members = T;
   tmin = lo;
   tmax = hi;
   rows = N + 2 * hi - 2;
@@ -59,6 +59,6 @@ madeOf N T lo hi = record {
 pub made-is : (N T lo hi : ℕ) → 1 ≤ N → 1 ≤ hi → lo ≡ tmin T → hi ≡ tmax T → madeOf N T lo hi ≡ settingsOf N T
 unfolding rows cells M heights entries
 made-is N T lo hi n h p q =
-    ap (λ (e : ℕ). record { height = N; «set» = T; tmin = lo; tmax = hi; rows = N + 2 * hi - 2; cells = (N + 2 * hi - 2) * hi; counts = (N + 2 * hi - 2) / lo; entries = e * ((N + 2 * hi - 2) / lo + 1) })
+    ap (λ (e : ℕ). record { height = N; members = T; tmin = lo; tmax = hi; rows = N + 2 * hi - 2; cells = (N + 2 * hi - 2) * hi; counts = (N + 2 * hi - 2) / lo; entries = e * ((N + 2 * hi - 2) / lo + 1) })
     (let e : N + 2 * hi - 2 + 1 ≡ N + 2 * hi - 1 = omega arith in e)
     ∙ rw (p, q)

@@ -26,7 +26,7 @@ settingsChecks N T = check 1 (outside 1 512 N) 0 ∷ check 2 (eqb T 0) 0 ∷ []
 abbrev pub settingsOf : ℕ → ℕ → Settings
 settingsOf N T = record {
   height = N;
-  «set» = T;
+  members = T;
   tmin = tmin T;
   tmax = tmax T;
   rows = rows N T;
@@ -46,8 +46,8 @@ pub record Sound (s : Settings) : Type 0 where
   pub thin : 1 ≤ s .tmin
   pub order : s .tmin ≤ s .tmax
   pub thick : s .tmax ≤ 32
-  pub least : s .tmin ≡ tmin (s .«set»)
-  pub greatest : s .tmax ≡ tmax (s .«set»)
+  pub least : s .tmin ≡ tmin (s .members)
+  pub greatest : s .tmax ≡ tmax (s .members)
   pub rows-are : s .rows ≡ s .height + 2 * s .tmax - 2
   pub cells-are : s .cells ≡ s .rows * s .tmax
   pub few-cells : s .cells ≤ 18_368

@@ -7,7 +7,7 @@ use crate::refusal::Reason;
 
 pub struct Settings {
     pub height: usize,
-    pub set: u32,
+    pub members: u32,
     pub tmin: usize,
     pub tmax: usize,
     // Starts of a table, and its cells.
@@ -24,8 +24,8 @@ pub enum Made {
 }
 
 // Whether the thickness t is in the set.
-pub fn is_allowed(set: u32, t: usize) -> bool
-    ensures { λ r. ⌜ r ≡ allowed «set» t ⌝ }
+pub fn is_allowed(members: u32, t: usize) -> bool
+    ensures { λ r. ⌜ r ≡ allowed members t ⌝ }
 {
     if t < 1 {
         return false;
@@ -33,16 +33,16 @@ pub fn is_allowed(set: u32, t: usize) -> bool
     if 32 < t {
         return false;
     }
-    (set >> (t - 1)) % 2 == 1
+    (members >> (t - 1)) % 2 == 1
 }
 
 // The least member of the set, and 0 where it has none.
-pub fn least_of(set: u32) -> usize
-    ensures { λ r. ⌜ r ≡ tmin «set» ⌝ }
+pub fn least_of(members: u32) -> usize
+    ensures { λ r. ⌜ r ≡ tmin members ⌝ }
 {
     let mut k: usize = 0;
     while k < 32 {
-        if is_allowed(set, k + 1) {
+        if is_allowed(members, k + 1) {
             return k + 1;
         }
         k += 1;
@@ -51,12 +51,12 @@ pub fn least_of(set: u32) -> usize
 }
 
 // The greatest member of the set, and 0 where it has none.
-pub fn greatest_of(set: u32) -> usize
-    ensures { λ r. ⌜ r ≡ tmax «set» ⌝ }
+pub fn greatest_of(members: u32) -> usize
+    ensures { λ r. ⌜ r ≡ tmax members ⌝ }
 {
     let mut k: usize = 32;
     while 0 < k {
-        if is_allowed(set, k) {
+        if is_allowed(members, k) {
             return k;
         }
         k -= 1;
@@ -70,8 +70,8 @@ impl Settings {
     pub const GREATEST_HEIGHT: u32 = 512;
 
     // Refusals 1 and 2, or the settings.
-    pub fn new(height: u32, set: u32) -> Made
-        ensures { λ r. ⌜ (toldMade r ≡ decided (settingsChecks height «set») (settingsOf height «set»)) × Passed r height «set» ⌝ }
+    pub fn new(height: u32, members: u32) -> Made
+        ensures { λ r. ⌜ (toldMade r ≡ decided (settingsChecks height members) (settingsOf height members)) × Passed r height members ⌝ }
     {
         if height < Settings::LEAST_HEIGHT {
             return Made::Bad(Reason::Height);
@@ -79,17 +79,17 @@ impl Settings {
         if Settings::GREATEST_HEIGHT < height {
             return Made::Bad(Reason::Height);
         }
-        if set == 0 {
+        if members == 0 {
             return Made::Bad(Reason::NoThickness);
         }
         let n = height as usize;
-        let tmin = least_of(set);
-        let tmax = greatest_of(set);
+        let tmin = least_of(members);
+        let tmax = greatest_of(members);
         let rows = n + 2 * tmax - 2;
         let counts = rows / tmin;
         Made::Good(Settings {
             height: n,
-            set,
+            members,
             tmin,
             tmax,
             rows,

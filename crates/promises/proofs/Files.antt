@@ -208,20 +208,20 @@ columns-passed : (N : ℕ) (columns : List (List ℕ)) → InOrder N columns →
 columns-passed N [] o = tt
 columns-passed N (bs ∷ columns) o = (column-passed N bs (o .0), columns-passed N columns (o .1))
 
-module _ (job : Job) (lent : List ℕ) (room : cells (job .asked .height) (job .asked .«set») ≤ length lent) where
+module _ (job : Job) (lent : List ℕ) (room : cells (job .asked .height) (job .asked .members) ≤ length lent) where
   load-done : loadAnswer lent (done job) ≡ done (loadOf job)
   unfolding loadAnswer short
-  load-done = simp (le-ltb (length lent) (cells (job .asked .height) (job .asked .«set»)) room)
+  load-done = simp (le-ltb (length lent) (cells (job .asked .height) (job .asked .members)) room)
 
-  load-leaves : loadTable lent (done job) ≡ tableOf (job .asked .height) (job .asked .«set») (job .columns) lent
+  load-leaves : loadTable lent (done job) ≡ tableOf (job .asked .height) (job .asked .members) (job .columns) lent
   unfolding loadTable
-  load-leaves = sym (after-done (loadAnswer lent (done job)) (loadOf job) (tableOf (job .asked .height) (job .asked .«set») (job .columns) lent) lent (sym load-done))
+  load-leaves = sym (after-done (loadAnswer lent (done job)) (loadOf job) (tableOf (job .asked .height) (job .asked .members) (job .columns) lent) lent (sym load-done))
 
   -- a file of bytes that is not refused, and a buffer with room
   pub file-tabulated : (most : ℕ) (s : List ℕ) → ((i : ℕ) → getD s i 0 < 256) → jobOf most s ≡ done job → FileRead most s job lent
   file-tabulated most s byte e =
       let N = job .asked .height in
-      let T = job .asked .«set» in
+      let T = job .asked .members in
       let o = ordered most s byte job e in
       let w : loadTable lent (jobOf most s) ≡ tableOf N T (job .columns) lent = ap (loadTable lent) e ∙ load-leaves in
       record {

@@ -71,5 +71,5 @@ refusals = record {
   picture = λ N T bs z t number place. refused-exactly (pictureChecks N T bs z t) _ number place;
   motor = λ s z number place. refused-exactly (heightChecks s z) _ number place;
   read-record = λ s st at number place. rw (record-told s st at) (refused-exactly (recordChecks s st at) _ number place);
-  read-file = λ lent job number place. refused-exactly (short (job .asked .height) (job .asked .«set») lent 1 ∷ []) _ number place;
+  read-file = λ lent job number place. refused-exactly (short (job .asked .height) (job .asked .members) lent 1 ∷ []) _ number place;
 }

@@ -67,10 +67,10 @@ pub record Ends (s : List ℕ) (st : State) (at : ℕ) (job : Job) : Type 0 wher
 -- the file's settings and columns are document 01's, the answer is what they ask for and their number, and the lent buffer holds their
 -- table, with what stood past the table as it was
 pub record FileRead (most : ℕ) (s : List ℕ) (job : Job) (lent : List ℕ) : Type 0 where
-  pub settings : paper.Settings (job .asked .height) (job .asked .«set»)
+  pub settings : paper.Settings (job .asked .height) (job .asked .members)
   pub columns : Columns (job .asked .height) (job .columns)
   pub few : length (job .columns) ≤ mostColumns
   pub answer : loadAnswer lent (jobOf most s) ≡ done (loadOf job)
-  pub table : Table (ofColumns (job .asked .height) (job .asked .«set») (job .columns)) (loadTable lent (jobOf most s))
-  pub past : (i : ℕ) → cells (job .asked .height) (job .asked .«set») ≤ i → getD (loadTable lent (jobOf most s)) i 0 ≡ getD lent i 0
+  pub table : Table (ofColumns (job .asked .height) (job .asked .members) (job .columns)) (loadTable lent (jobOf most s))
+  pub past : (i : ℕ) → cells (job .asked .height) (job .asked .members) ≤ i → getD (loadTable lent (jobOf most s)) i 0 ≡ getD lent i 0
   pub long : length (loadTable lent (jobOf most s)) ≡ length lent

@@ -48,4 +48,4 @@ pub record Refusals : Type 0 where
   pub picture : (N T : ℕ) (bs : List ℕ) (z : ℤ) (t : ℕ) → Exactly (pictureAnswer N T bs z t) (pictureChecks N T bs z t)
   pub motor : (s : ℕ) (z : ℤ) → Exactly (heightAnswer s z) (heightChecks s z)
   pub read-record : (s : List ℕ) (st : State) (at : ℕ) → Exactly (readRecord s st at .told) (recordChecks s st at)
-  pub read-file : (lent : List ℕ) (job : Job) → Exactly (loadAnswer lent (done job)) (short (job .asked .height) (job .asked .«set») lent 1 ∷ [])
+  pub read-file : (lent : List ℕ) (job : Job) → Exactly (loadAnswer lent (done job)) (short (job .asked .height) (job .asked .members) lent 1 ∷ [])

@@ -35,7 +35,7 @@ count-is [] = refl
 count-is (z ∷ zs) = omega arith
 
 -- a sequence that starts as an admissible one does
-pub starts-in : {s : Settings} → Sound s → (zs : List ℤ) → Started s zs → startOut (s .«set») (zs ! 0) ≡ false
+pub starts-in : {s : Settings} → Sound s → (zs : List ℤ) → Started s zs → startOut (s .members) (zs ! 0) ≡ false
 starts-in k zs h =
     start-in _ (some-thickness k) (few-thicknesses k) (zs ! 0) (omega (arith, h .starts-above, k .greatest)) (h .starts-by)
 
@@ -95,8 +95,8 @@ module _ (N T c : ℕ) (table : List ℕ) (bound : ℕ) (zs : List ℤ) where
       (settings-said N T (tableRest N T c table) reason e)
 
   pub good : none ≡ first (tableChecks N T c table) → (s : Settings) → Passed (Good s) N T
-      → sequenceAnswer (s .height) (s .«set») table bound zs ≡ recountAnswer N T c table bound zs
+      → sequenceAnswer (s .height) (s .members) table bound zs ≡ recountAnswer N T c table bound zs
   unfolding recountAnswer sequenceAnswer
   good fine s p =
-      ap (λ (s : Settings). sequenceAnswer (s .height) (s .«set») table bound zs) (p .1)
+      ap (λ (s : Settings). sequenceAnswer (s .height) (s .members) table bound zs) (p .1)
       ∙ sym (decided-passed (tableChecks N T c table) (sequenceChecks N T table bound zs) (error (ofTable N T table) zs) (sym fine))

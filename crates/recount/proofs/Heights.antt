@@ -83,8 +83,8 @@ pub end-in : (N : ℕ) (z : ℤ) → N + 32 ≤ datum z → ltZ z (pos N) ≡ fa
 end-in N z l = end-is N z ∙ le-ltb (datum z) (N + 32) l
 
 -- sound settings
-pub some-thickness : {s : Settings} → Sound s → 1 ≤ tmax (s .«set»)
+pub some-thickness : {s : Settings} → Sound s → 1 ≤ tmax (s .members)
 some-thickness k = omega (arith, k .greatest, k .thin, k .order)
 
-pub few-thicknesses : {s : Settings} → Sound s → tmax (s .«set») ≤ 32
+pub few-thicknesses : {s : Settings} → Sound s → tmax (s .members) ≤ 32
 few-thicknesses k = omega (arith, k .greatest, k .thick)

@@ -73,17 +73,17 @@ module _ {s : Settings} (sound : Sound s) (table : List ℕ) (bound : ℕ) (zs :
   next : above ≡ datum (zs ! suc k)
   next = a ∙ ap (λ (i : ℕ). datum (zs ! i)) (add-one k)
 
-  pub layer-between : layerOut (s .height) (s .«set») table bound zs k ≡ outBetween (s .height) (s .«set») table bound below above
+  pub layer-between : layerOut (s .height) (s .members) table bound zs k ≡ outBetween (s .height) (s .members) table bound below above
   layer-between =
-      layer-is (s .height) (s .«set») table bound zs k (some-thickness sound) (few-thicknesses sound) (omega arith)
-      ∙ sym (ap₂ (outBetween (s .height) (s .«set») table bound) b next)
+      layer-is (s .height) (s .members) table bound zs k (some-thickness sound) (few-thicknesses sound) (omega arith)
+      ∙ sym (ap₂ (outBetween (s .height) (s .members) table bound) b next)
 
-  pub one-more : (sum error : ℕ) → Counted (s .height) (s .«set») table bound below above error
-      → sum ≡ errorUnder (ofTable (s .height) (s .«set») table) zs k → sum + error ≡ errorUnder (ofTable (s .height) (s .«set») table) zs (k + 1)
+  pub one-more : (sum error : ℕ) → Counted (s .height) (s .members) table bound below above error
+      → sum ≡ errorUnder (ofTable (s .height) (s .members) table) zs k → sum + error ≡ errorUnder (ofTable (s .height) (s .members) table) zs (k + 1)
   one-more sum error c e =
       let l : datum (zs ! k) < datum (zs ! suc k) = omega (arith, c .rises, next) in
       rw add-one
       (ap₂ _+_ e
       (c .is
-      ∙ ap₂ (λ (h g : ℕ). cellFrom (s .«set») table h (g - h)) b next
-      ∙ sym (error-is (s .height) (s .«set») table bound zs k (some-thickness sound) (few-thicknesses sound) (omega arith) l)))
+      ∙ ap₂ (λ (h g : ℕ). cellFrom (s .members) table h (g - h)) b next
+      ∙ sym (error-is (s .height) (s .members) table bound zs k (some-thickness sound) (few-thicknesses sound) (omega arith) l)))

@@ -37,13 +37,13 @@ fn datum_at(sequence: &[i32], k: usize) -> usize
 fn look(table: &[u32], s: Settings, bound: u32, below: usize, above: usize) -> Layer
     requires { ⌜ Sound s ⌝ }
     requires { ⌜ (s .cells ≤ length (now table)) × (32 < below + s .tmax) ⌝ }
-    ensures { λ r. ⌜ Looked r (s .height) (s .«set») (now (table .entry)) bound below above ⌝ }
+    ensures { λ r. ⌜ Looked r (s .height) (s .members) (now (table .entry)) bound below above ⌝ }
 {
     if above <= below {
         return Layer::Out;
     }
     let t = above - below;
-    if !is_allowed(s.set, t) {
+    if !is_allowed(s.members, t) {
         return Layer::Out;
     }
     if s.height + s.tmax + 31 < above {
@@ -61,7 +61,7 @@ fn recount_layers(table: &[u32], s: Settings, bound: u32, sequence: &[i32]) -> A
     requires { ⌜ Sound s ⌝ }
     requires { ⌜ s .cells ≤ length (now table) ⌝ }
     requires { ⌜ Started s (now sequence) ⌝ }
-    ensures { λ r. ⌜ told r ≡ sequenceAnswer (s .height) (s .«set») (now (table .entry)) bound (now (sequence .entry)) ⌝ }
+    ensures { λ r. ⌜ told r ≡ sequenceAnswer (s .height) (s .members) (now (table .entry)) bound (now (sequence .entry)) ⌝ }
 {
     let count = sequence.len() - 1;
     let mut below = datum_at(sequence, 0);
@@ -87,7 +87,7 @@ fn recount_layers(table: &[u32], s: Settings, bound: u32, sequence: &[i32]) -> A
 fn recount_sequence(table: &[u32], s: Settings, bound: u32, sequence: &[i32]) -> Answer
     requires { ⌜ Sound s ⌝ }
     requires { ⌜ s .cells ≤ length (now table) ⌝ }
-    ensures { λ r. ⌜ told r ≡ sequenceAnswer (s .height) (s .«set») (now (table .entry)) bound (now (sequence .entry)) ⌝ }
+    ensures { λ r. ⌜ told r ≡ sequenceAnswer (s .height) (s .members) (now (table .entry)) bound (now (sequence .entry)) ⌝ }
 {
     if sequence.len() < 2 {
         return refused(Reason::NotAdmissible, 0);
@@ -106,18 +106,18 @@ fn recount_sequence(table: &[u32], s: Settings, bound: u32, sequence: &[i32]) ->
 pub fn recount(
     table: &[u32],
     height: u32,
-    set: u32,
+    members: u32,
     tally: Tally,
     bound: u32,
     sequence: &[i32],
 ) -> Answer
-    ensures { λ r. ⌜ told r ≡ recountAnswer height «set» (tally .columns) (now (table .entry)) bound (now (sequence .entry)) ⌝ }
+    ensures { λ r. ⌜ told r ≡ recountAnswer height members (tally .columns) (now (table .entry)) bound (now (sequence .entry)) ⌝ }
 {
-    let checked = check_table(table, height, set, tally);
+    let checked = check_table(table, height, members, tally);
     if let Checked::Refused(refusal) = checked {
         return Answer::Refused(refusal);
     }
-    let made = Settings::new(height, set);
+    let made = Settings::new(height, members);
     match made {
         Made::Bad(reason) => refused(reason, 0),
         Made::Good(s) => recount_sequence(table, s, bound, sequence),

@@ -82,7 +82,7 @@ module _ (s : List ℕ) (byte : (i : ℕ) → getD s i 0 < 256) where
   job-length (done job) e =
       let o = ordered most s byte job e in
       let N = job .asked .height in
-      let T = job .asked .«set» in
+      let T = job .asked .members in
       let k = few-counts N T (settings-passed N T (o .bits) (o .fine)) (o .few-entries) in
       let p = ofColumns N T (job .columns) in
       let a = lines-length (λ n. countLine p n (found p (job .asked .bound) n)) 0 (M N T) (λ n l u. count-length p (job .asked .bound) n l (omega arith)) in

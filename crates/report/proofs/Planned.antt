@@ -23,8 +23,8 @@ use Rattle.report.specs.Lines.{refusedLine}
 use Rattle.report.specs.Work.{blankSheets, sheetsText, plannedBy, plannedText, loadedBy, fileText}
 
 module _ (l : Load) (table : List ℕ) (lent left : Sheets) (r : Answer)
-    (tells : told r ≡ planAnswer (l .asked .height) (l .asked .«set») (l .tally .columns) table lent)
-    (leaves : left ≡ planSheets (l .asked .height) (l .asked .«set») (l .tally .columns) table (l .asked .bound) lent) where
+    (tells : told r ≡ planAnswer (l .asked .height) (l .asked .members) (l .tally .columns) table lent)
+    (leaves : left ≡ planSheets (l .asked .height) (l .asked .members) (l .tally .columns) table (l .asked .bound) lent) where
   by-answer : (x : Answer) → r ≡ x → plannedBy l (told x) left ≡ plannedText l table lent
   unfolding plannedText
   by-answer x e = ap₂ (plannedBy l) (ap told (sym e) ∙ tells) leaves
@@ -33,7 +33,7 @@ module _ (l : Load) (table : List ℕ) (lent left : Sheets) (r : Answer)
   plan-refused refusal e = by-answer (answer.Refused refusal) e
 
   module _ (counts : ℕ) (e : r ≡ answer.Done counts) where
-    pub plan-done : sheetsText (l .asked .height) (l .asked .«set») (l .tally .columns) counts (left .errors) (left .thicknesses) ≡ plannedText l table lent
+    pub plan-done : sheetsText (l .asked .height) (l .asked .members) (l .tally .columns) counts (left .errors) (left .thicknesses) ≡ plannedText l table lent
     plan-done = by-answer (answer.Done counts) e
 
     -- the list has room for every count
@@ -41,7 +41,7 @@ module _ (l : Load) (table : List ℕ) (lent left : Sheets) (r : Answer)
     unfolding planAnswer planRest
     counted =
         let N = l .asked .height in
-        let T = l .asked .«set» in
+        let T = l .asked .members in
         let rest = planRest N T (l .tally .columns) table lent in
         let d = told-done _ (M N T) counts (sym tells ∙ ap told e) in
         let q = first-none rest .0 (first-later (settingsChecks N T) rest (d .0)) in

@@ -76,7 +76,7 @@ module _ (s : List ℕ) (byte : (i : ℕ) → getD s i 0 < 256) (job : Job) (is 
   N = job .asked .height
 
   abbrev T : ℕ
-  T = job .asked .«set»
+  T = job .asked .members
 
   abbrev plate : Plate
   plate = ofColumns N T (job .columns)

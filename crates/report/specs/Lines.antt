@@ -86,7 +86,7 @@ plateText N T bound columns =
     ++ countLines (λ n. countLine (ofColumns N T columns) n (found (ofColumns N T columns) bound n)) 0 (M N T)
 
 abbrev pub jobText : Told Job → List ℕ
-jobText (done job) = plateText (job .asked .height) (job .asked .«set») (job .asked .bound) (job .columns)
+jobText (done job) = plateText (job .asked .height) (job .asked .members) (job .asked .bound) (job .columns)
 jobText (refused number place) = refusedLine number place
 
 -- 'Over 4,096 bytes: 17 at 0, before all else. A table or sheet over 4,096 entries: 17 at the settings record'

@@ -36,13 +36,13 @@ sheetsText N T columns counts errors thicknesses = headLine N columns counts ++ 
 
 -- a job whose table was read
 abbrev pub plannedBy : Load → Told ℕ → Sheets → List ℕ
-plannedBy l (done counts) left = sheetsText (l .asked .height) (l .asked .«set») (l .tally .columns) counts (left .errors) (left .thicknesses)
+plannedBy l (done counts) left = sheetsText (l .asked .height) (l .asked .members) (l .tally .columns) counts (left .errors) (left .thicknesses)
 plannedBy l (refused number place) left = refusedLine number place
 
 unfoldable pub plannedText : Load → List ℕ → Sheets → List ℕ
 plannedText l table lent =
-    plannedBy l (planAnswer (l .asked .height) (l .asked .«set») (l .tally .columns) table lent)
-    (planSheets (l .asked .height) (l .asked .«set») (l .tally .columns) table (l .asked .bound) lent)
+    plannedBy l (planAnswer (l .asked .height) (l .asked .members) (l .tally .columns) table lent)
+    (planSheets (l .asked .height) (l .asked .members) (l .tally .columns) table (l .asked .bound) lent)
 
 -- a file that is read into a table
 abbrev pub loadedBy : Told Load → List ℕ → List ℕ

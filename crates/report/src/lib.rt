@@ -96,16 +96,16 @@ fn put_read(
     out: &mut [u8],
     at: usize,
     height: u32,
-    set: u32,
+    members: u32,
     errors: &[u64],
     thicknesses: &[u8],
     n: u32,
     sequence: &mut [i32],
 ) -> usize
     requires { ⌜ n < length (now sequence) ⌝ }
-    ensures { λ r. ⌜ sink r (now (out .exit)) ≡ put (sheetLine height «set» (now (errors .entry)) (now (thicknesses .entry)) (now (sequence .entry)) n) (sink at (now (out .entry))) ⌝ }
+    ensures { λ r. ⌜ sink r (now (out .exit)) ≡ put (sheetLine height members (now (errors .entry)) (now (thicknesses .entry)) (now (sequence .entry)) n) (sink at (now (out .entry))) ⌝ }
 {
-    let answer = read_back(height, set, errors, thicknesses, n, sequence);
+    let answer = read_back(height, members, errors, thicknesses, n, sequence);
     match answer {
         Answer::Done(error) => put_sequence(out, at, n, error, sequence),
         Answer::Refused(_) => put_none(out, at, n),
@@ -116,16 +116,25 @@ fn put_count(
     out: &mut [u8],
     at: usize,
     height: u32,
-    set: u32,
+    members: u32,
     errors: &[u64],
     thicknesses: &[u8],
     n: u32,
 ) -> usize
     requires { ⌜ n < 64 ⌝ }
-    ensures { λ r. ⌜ sink r (now (out .exit)) ≡ put (sheetLine height «set» (now (errors .entry)) (now (thicknesses .entry)) blankSequence n) (sink at (now (out .entry))) ⌝ }
+    ensures { λ r. ⌜ sink r (now (out .exit)) ≡ put (sheetLine height members (now (errors .entry)) (now (thicknesses .entry)) blankSequence n) (sink at (now (out .entry))) ⌝ }
 {
     let mut sequence = [0i32; 64];
-    put_read(out, at, height, set, errors, thicknesses, n, &mut sequence)
+    put_read(
+        out,
+        at,
+        height,
+        members,
+        errors,
+        thicknesses,
+        n,
+        &mut sequence,
+    )
 }
 
 // The lines of the counts from 1 on.
@@ -133,19 +142,19 @@ fn put_counts(
     out: &mut [u8],
     at: usize,
     height: u32,
-    set: u32,
+    members: u32,
     errors: &[u64],
     thicknesses: &[u8],
     counts: u32,
 ) -> usize
     requires { ⌜ counts < 64 ⌝ }
-    ensures { λ r. ⌜ sink r (now (out .exit)) ≡ put (countLines (sheetLine height «set» (now (errors .entry)) (now (thicknesses .entry)) blankSequence) 0 counts) (sink at (now (out .entry))) ⌝ }
+    ensures { λ r. ⌜ sink r (now (out .exit)) ≡ put (countLines (sheetLine height members (now (errors .entry)) (now (thicknesses .entry)) blankSequence) 0 counts) (sink at (now (out .entry))) ⌝ }
 {
     let mut next = at;
     let mut n: u32 = 0;
     while n < counts {
         n += 1;
-        next = put_count(out, next, height, set, errors, thicknesses, n);
+        next = put_count(out, next, height, members, errors, thicknesses, n);
     }
     next
 }
@@ -153,7 +162,7 @@ fn put_counts(
 // All lines of a plate, from its sheets.
 fn put_sheets(out: &mut [u8], load: Load, counts: u32, errors: &[u64], thicknesses: &[u8]) -> usize
     requires { ⌜ counts < 64 ⌝ }
-    ensures { λ r. ⌜ sink r (now (out .exit)) ≡ put (sheetsText (load .asked .height) (load .asked .«set») (load .tally .columns) counts (now (errors .entry)) (now (thicknesses .entry))) (sink 0 (now (out .entry))) ⌝ }
+    ensures { λ r. ⌜ sink r (now (out .exit)) ≡ put (sheetsText (load .asked .height) (load .asked .members) (load .tally .columns) counts (now (errors .entry)) (now (thicknesses .entry))) (sink 0 (now (out .entry))) ⌝ }
 {
     let asked = load.asked;
     let tally = load.tally;
@@ -162,7 +171,7 @@ fn put_sheets(out: &mut [u8], load: Load, counts: u32, errors: &[u64], thickness
         out,
         at,
         asked.height,
-        asked.set,
+        asked.members,
         errors,
         thicknesses,
         counts,
@@ -185,7 +194,7 @@ fn put_plan(
     let answer = plan(
         table,
         asked.height,
-        asked.set,
+        asked.members,
         load.tally,
         asked.bound,
         errors,

@@ -37,8 +37,8 @@ module _ (n : ℕ) (r : Refusal) (e : n ≡ numberOf (r .reason)) where
   pub height-refused : (a : Lifted) → a ≡ lifted.Refused r → record { number = n; height = ofBits binary32 0; place = r .place } ≡ heightReply (toldLifted a)
   height-refused a f = ap (λ (m : ℕ). record { number = m; height = ofBits binary32 0; place = r .place }) e ∙ sym (ap (λ (x : Lifted). heightReply (toldLifted x)) f)
 
-  pub job-refused : (a : Loaded) → a ≡ loaded.Refused r → record { number = n; height = 0; «set» = 0; bound = 0; columns = 0; place = r .place } ≡ jobReply (toldLoad a)
-  job-refused a f = ap (λ (m : ℕ). record { number = m; height = 0; «set» = 0; bound = 0; columns = 0; place = r .place }) e ∙ sym (ap (λ (x : Loaded). jobReply (toldLoad x)) f)
+  pub job-refused : (a : Loaded) → a ≡ loaded.Refused r → record { number = n; height = 0; members = 0; bound = 0; columns = 0; place = r .place } ≡ jobReply (toldLoad a)
+  job-refused a f = ap (λ (m : ℕ). record { number = m; height = 0; members = 0; bound = 0; columns = 0; place = r .place }) e ∙ sym (ap (λ (x : Loaded). jobReply (toldLoad x)) f)
 
 pub reply-done : (x : ℕ) (a : Answer) → a ≡ answer.Done x → record { number = 0; value = x } ≡ reply (told a)
 reply-done x a f = sym (ap (λ (y : Answer). reply (told y)) f)
@@ -53,5 +53,5 @@ pub height-done : (x : Float) (a : Lifted) → a ≡ lifted.Done x → record { 
 height-done x a f = sym (ap (λ (y : Lifted). heightReply (toldLifted y)) f)
 
 pub job-done : (l : Load) (a : Loaded) → a ≡ loaded.Done l
-    → record { number = 0; height = l .asked .height; «set» = l .asked .«set»; bound = l .asked .bound; columns = l .tally .columns; place = 0 } ≡ jobReply (toldLoad a)
+    → record { number = 0; height = l .asked .height; members = l .asked .members; bound = l .asked .bound; columns = l .tally .columns; place = 0 } ≡ jobReply (toldLoad a)
 job-done l a f = sym (ap (λ (y : Loaded). jobReply (toldLoad y)) f)

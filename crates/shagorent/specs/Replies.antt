@@ -33,9 +33,9 @@ abbrev pub jobReply : Told Load → JobReply
 jobReply (done l) = record {
   number = 0;
   height = l .asked .height;
-  «set» = l .asked .«set»;
+  members = l .asked .members;
   bound = l .asked .bound;
   columns = l .tally .columns;
   place = 0;
 }
-jobReply (refused number place) = record { number = number; height = 0; «set» = 0; bound = 0; columns = 0; place = place }
+jobReply (refused number place) = record { number = number; height = 0; members = 0; bound = 0; columns = 0; place = place }

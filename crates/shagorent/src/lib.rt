@@ -72,7 +72,7 @@ pub struct HeightReply {
 pub struct JobReply {
     pub number: u32,
     pub height: u32,
-    pub set: u32,
+    pub members: u32,
     pub bound: u32,
     pub columns: u32,
     pub place: u64,
@@ -154,7 +154,7 @@ fn job_reply(loaded: Loaded) -> JobReply
             JobReply {
                 number: 0,
                 height: asked.height,
-                set: asked.set,
+                members: asked.members,
                 bound: asked.bound,
                 columns: tally.columns,
                 place: 0,
@@ -165,7 +165,7 @@ fn job_reply(loaded: Loaded) -> JobReply
             JobReply {
                 number: reason.number(),
                 height: 0,
-                set: 0,
+                members: 0,
                 bound: 0,
                 columns: 0,
                 place: refusal.place,
@@ -197,40 +197,40 @@ fn height_reply(lifted: Lifted) -> HeightReply
 // ---- the calls
 
 #[no_mangle]
-pub extern "C" fn shagorent_clear_table(table: &mut [u32], height: u32, set: u32) -> TableReply
-    ensures { λ r. ⌜ (r ≡ tableReply (clearAnswer height «set» (now (table .entry)))) × (now (table .exit) ≡ clearTable height «set» (now (table .entry))) ⌝ }
+pub extern "C" fn shagorent_clear_table(table: &mut [u32], height: u32, members: u32) -> TableReply
+    ensures { λ r. ⌜ (r ≡ tableReply (clearAnswer height members (now (table .entry)))) × (now (table .exit) ≡ clearTable height members (now (table .entry))) ⌝ }
 {
-    table_reply(clear_table(table, height, set))
+    table_reply(clear_table(table, height, members))
 }
 
 #[no_mangle]
 pub extern "C" fn shagorent_add_column(
     table: &mut [u32],
     height: u32,
-    set: u32,
+    members: u32,
     columns: u32,
     column: &[u16],
 ) -> TableReply
-    ensures { λ r. ⌜ (r ≡ tableReply (addAnswer height «set» columns (now (table .entry)) (now (column .entry))))
-        × (now (table .exit) ≡ addTable height «set» columns (now (table .entry)) (now (column .entry))) ⌝ }
+    ensures { λ r. ⌜ (r ≡ tableReply (addAnswer height members columns (now (table .entry)) (now (column .entry))))
+        × (now (table .exit) ≡ addTable height members columns (now (table .entry)) (now (column .entry))) ⌝ }
 {
     let tally = Tally { columns };
-    table_reply(add_column(table, height, set, tally, column))
+    table_reply(add_column(table, height, members, tally, column))
 }
 
 #[no_mangle]
 pub extern "C" fn shagorent_join_tables(
     table: &mut [u32],
     height: u32,
-    set: u32,
+    members: u32,
     columns: u32,
     other: &[u32],
     other_height: u32,
-    other_set: u32,
+    other_members: u32,
     other_columns: u32,
 ) -> TableReply
-    ensures { λ r. ⌜ (r ≡ tableReply (joinAnswer height «set» columns (now (table .entry)) «other_height» «other_set» «other_columns» (now (other .entry))))
-        × (now (table .exit) ≡ joinTable height «set» columns (now (table .entry)) «other_height» «other_set» «other_columns» (now (other .entry))) ⌝ }
+    ensures { λ r. ⌜ (r ≡ tableReply (joinAnswer height members columns (now (table .entry)) «other_height» «other_members» «other_columns» (now (other .entry))))
+        × (now (table .exit) ≡ joinTable height members columns (now (table .entry)) «other_height» «other_members» «other_columns» (now (other .entry))) ⌝ }
 {
     let tally = Tally { columns };
     let other_tally = Tally {
@@ -239,11 +239,11 @@ pub extern "C" fn shagorent_join_tables(
     table_reply(join_tables(
         table,
         height,
-        set,
+        members,
         tally,
         other,
         other_height,
-        other_set,
+        other_members,
         other_tally,
     ))
 }
@@ -252,15 +252,15 @@ pub extern "C" fn shagorent_join_tables(
 pub extern "C" fn shagorent_take_off(
     table: &mut [u32],
     height: u32,
-    set: u32,
+    members: u32,
     columns: u32,
     other: &[u32],
     other_height: u32,
-    other_set: u32,
+    other_members: u32,
     other_columns: u32,
 ) -> TableReply
-    ensures { λ r. ⌜ (r ≡ tableReply (takeAnswer height «set» columns (now (table .entry)) «other_height» «other_set» «other_columns» (now (other .entry))))
-        × (now (table .exit) ≡ takeTable height «set» columns (now (table .entry)) «other_height» «other_set» «other_columns» (now (other .entry))) ⌝ }
+    ensures { λ r. ⌜ (r ≡ tableReply (takeAnswer height members columns (now (table .entry)) «other_height» «other_members» «other_columns» (now (other .entry))))
+        × (now (table .exit) ≡ takeTable height members columns (now (table .entry)) «other_height» «other_members» «other_columns» (now (other .entry))) ⌝ }
 {
     let tally = Tally { columns };
     let other_tally = Tally {
@@ -269,11 +269,11 @@ pub extern "C" fn shagorent_take_off(
     table_reply(take_off(
         table,
         height,
-        set,
+        members,
         tally,
         other,
         other_height,
-        other_set,
+        other_members,
         other_tally,
     ))
 }
@@ -282,61 +282,70 @@ pub extern "C" fn shagorent_take_off(
 pub extern "C" fn shagorent_plan(
     table: &[u32],
     height: u32,
-    set: u32,
+    members: u32,
     columns: u32,
     bound: u32,
     errors: &mut [u64],
     thicknesses: &mut [u8],
     list: &mut [u64],
 ) -> Reply
-    ensures { λ r. ⌜ (r ≡ reply (planAnswer height «set» columns (now (table .entry)) (sheetsOf (now (errors .entry)) (now (thicknesses .entry)) (now (list .entry)))))
-        × (sheetsOf (now (errors .exit)) (now (thicknesses .exit)) (now (list .exit)) ≡ planSheets height «set» columns (now (table .entry)) bound (sheetsOf (now (errors .entry)) (now (thicknesses .entry)) (now (list .entry)))) ⌝ }
+    ensures { λ r. ⌜ (r ≡ reply (planAnswer height members columns (now (table .entry)) (sheetsOf (now (errors .entry)) (now (thicknesses .entry)) (now (list .entry)))))
+        × (sheetsOf (now (errors .exit)) (now (thicknesses .exit)) (now (list .exit)) ≡ planSheets height members columns (now (table .entry)) bound (sheetsOf (now (errors .entry)) (now (thicknesses .entry)) (now (list .entry)))) ⌝ }
 {
     let tally = Tally { columns };
-    reply_of(plan(table, height, set, tally, bound, errors, thicknesses, list))
+    reply_of(plan(
+        table,
+        height,
+        members,
+        tally,
+        bound,
+        errors,
+        thicknesses,
+        list,
+    ))
 }
 
 #[no_mangle]
 pub extern "C" fn shagorent_read_back(
     height: u32,
-    set: u32,
+    members: u32,
     errors: &[u64],
     thicknesses: &[u8],
     count: u32,
     out: &mut [i32],
 ) -> Reply
-    ensures { λ r. ⌜ (r ≡ reply (readAnswer height «set» (now (errors .entry)) (now (thicknesses .entry)) count (length (now (out .entry)))))
-        × (now (out .exit) ≡ readOut height «set» (now (errors .entry)) (now (thicknesses .entry)) count (now (out .entry))) ⌝ }
+    ensures { λ r. ⌜ (r ≡ reply (readAnswer height members (now (errors .entry)) (now (thicknesses .entry)) count (length (now (out .entry)))))
+        × (now (out .exit) ≡ readOut height members (now (errors .entry)) (now (thicknesses .entry)) count (now (out .entry))) ⌝ }
 {
-    reply_of(read_back(height, set, errors, thicknesses, count, out))
+    reply_of(read_back(height, members, errors, thicknesses, count, out))
 }
 
 #[no_mangle]
 pub extern "C" fn shagorent_recount(
     table: &[u32],
     height: u32,
-    set: u32,
+    members: u32,
     columns: u32,
     bound: u32,
     sequence: &[i32],
 ) -> Reply
-    ensures { λ r. ⌜ r ≡ reply (recountAnswer height «set» columns (now (table .entry)) bound (now (sequence .entry))) ⌝ }
+    ensures { λ r. ⌜ r ≡ reply (recountAnswer height members columns (now (table .entry)) bound (now (sequence .entry))) ⌝ }
 {
     let tally = Tally { columns };
-    reply_of(recount(table, height, set, tally, bound, sequence))
+    reply_of(recount(table, height, members, tally, bound, sequence))
 }
 
 #[no_mangle]
 pub extern "C" fn shagorent_picture(
     height: u32,
-    set: u32,
+    members: u32,
     column: &[u16],
     start: i32,
     thickness: u32,
 ) -> PictureReply
-    ensures { λ r. ⌜ r ≡ pictureReply (pictureAnswer height «set» (now (column .entry)) start thickness) ⌝ }
+    ensures { λ r. ⌜ r ≡ pictureReply (pictureAnswer height members (now (column .entry)) start thickness) ⌝ }
 {
-    picture_reply(picture(column, height, set, start, thickness))
+    picture_reply(picture(column, height, members, start, thickness))
 }
 
 #[no_mangle]
@@ -375,10 +384,10 @@ fn bad_reply(reason: Reason) -> Reply
 }
 
 #[no_mangle]
-pub extern "C" fn shagorent_cells(height: u32, set: u32) -> Reply
-    ensures { λ r. ⌜ r ≡ reply (decided (settingsChecks height «set») (cells height «set»)) ⌝ }
+pub extern "C" fn shagorent_cells(height: u32, members: u32) -> Reply
+    ensures { λ r. ⌜ r ≡ reply (decided (settingsChecks height members) (cells height members)) ⌝ }
 {
-    let made = Settings::new(height, set);
+    let made = Settings::new(height, members);
     match made {
         Made::Good(s) => size_reply(s.cells),
         Made::Bad(reason) => bad_reply(reason),
@@ -386,10 +395,10 @@ pub extern "C" fn shagorent_cells(height: u32, set: u32) -> Reply
 }
 
 #[no_mangle]
-pub extern "C" fn shagorent_entries(height: u32, set: u32) -> Reply
-    ensures { λ r. ⌜ r ≡ reply (decided (settingsChecks height «set») (entries height «set»)) ⌝ }
+pub extern "C" fn shagorent_entries(height: u32, members: u32) -> Reply
+    ensures { λ r. ⌜ r ≡ reply (decided (settingsChecks height members) (entries height members)) ⌝ }
 {
-    let made = Settings::new(height, set);
+    let made = Settings::new(height, members);
     match made {
         Made::Good(s) => size_reply(s.entries),
         Made::Bad(reason) => bad_reply(reason),
@@ -397,10 +406,10 @@ pub extern "C" fn shagorent_entries(height: u32, set: u32) -> Reply
 }
 
 #[no_mangle]
-pub extern "C" fn shagorent_counts(height: u32, set: u32) -> Reply
-    ensures { λ r. ⌜ r ≡ reply (decided (settingsChecks height «set») (M height «set»)) ⌝ }
+pub extern "C" fn shagorent_counts(height: u32, members: u32) -> Reply
+    ensures { λ r. ⌜ r ≡ reply (decided (settingsChecks height members) (M height members)) ⌝ }
 {
-    let made = Settings::new(height, set);
+    let made = Settings::new(height, members);
     match made {
         Made::Good(s) => size_reply(s.counts),
         Made::Bad(reason) => bad_reply(reason),

@@ -48,16 +48,16 @@ module _ (N T c : ℕ) (table : List ℕ) where
 
 -- where no cell is out of bounds, none is above the greatest limit: one table's, and those of two that passed 6
 module _ {s : Settings} (k : Sound s) where
-  pub table-under : (c : ℕ) (table : List ℕ) → c ≤ 1_000_000 → cells (s .height) (s .«set») ≤ firstOut (s .height) (s .«set») c table → UnderGreatest (s .cells) table
+  pub table-under : (c : ℕ) (table : List ℕ) → c ≤ 1_000_000 → cells (s .height) (s .members) ≤ firstOut (s .height) (s .members) c table → UnderGreatest (s .cells) table
   table-under c table u h = record {
     are = λ i l.
-        within-small (s .height) (s .«set») c table (omega (arith, k .greatest, k .thin, k .order)) (omega (arith, k .greatest, k .thick)) u h i (omega (arith, cells-sound k));
+        within-small (s .height) (s .members) c table (omega (arith, k .greatest, k .thin, k .order)) (omega (arith, k .greatest, k .thick)) u h i (omega (arith, cells-sound k));
   }
 
   pub pair-under : (c : ℕ) (table : List ℕ) (c′ : ℕ) (other : List ℕ) → c ≤ 1_000_000 → c′ ≤ 1_000_000
-      → none ≡ first (pairOut (s .height) (s .«set») c table c′ other) → UnderGreatest (s .cells) table × UnderGreatest (s .cells) other
+      → none ≡ first (pairOut (s .height) (s .members) c table c′ other) → UnderGreatest (s .cells) table × UnderGreatest (s .cells) other
   pair-under c table c′ other u u′ e =
-      let w = pair-within (s .height) (s .«set») c table c′ other e in
+      let w = pair-within (s .height) (s .members) c table c′ other e in
       (table-under c table u (w .0), table-under c′ other u′ (w .1))
 
 module _ (N T c : ℕ) (table bs : List ℕ) where

@@ -84,14 +84,14 @@ module _ {s : Settings} (k : Sound s) (r : ℕ) (l : r < s .rows) where
   cell-fits j u = let i = cell-in j u in omega (arith, k .few-cells)
 
 -- every cell stands in a row: where no row has a cell above its limit, no cell is out of bounds
-pub rows-within : {s : Settings} → Sound s → (c : ℕ) (limits table : List ℕ) → Limits (s .«set») c limits
-    → ((r : ℕ) → r < s .rows → Within limits table (r * s .tmax) (s .tmax)) → (i : ℕ) → i < s .cells → outOfBounds (s .«set») c table i ≡ false
+pub rows-within : {s : Settings} → Sound s → (c : ℕ) (limits table : List ℕ) → Limits (s .members) c limits
+    → ((r : ℕ) → r < s .rows → Within limits table (r * s .tmax) (s .tmax)) → (i : ℕ) → i < s .cells → outOfBounds (s .members) c table i ≡ false
 rows-within {s} k c limits table are w i l =
     let p : 1 ≤ s .tmax = omega (arith, k .thin, k .order) in
     let u = mod-lt i p in
     let r = div-lt-iff-lt-mul {x = i} {y = s .rows} p .1 (omega (arith, k .cells-are)) in
-    subst (λ (x : ℕ). outOfBounds (s .«set») c table x ≡ false) (div-add-mod' i (s .tmax))
-    (out-row (s .«set») (s .tmax) (i / s .tmax) (i % s .tmax) (k .greatest) u c limits are (k .thick) table ∙ w (i / s .tmax) r (i % s .tmax) u)
+    subst (λ (x : ℕ). outOfBounds (s .members) c table x ≡ false) (div-add-mod' i (s .tmax))
+    (out-row (s .members) (s .tmax) (i / s .tmax) (i % s .tmax) (k .greatest) u c limits are (k .thick) table ∙ w (i / s .tmax) r (i % s .tmax) u)
 
 -- the row of a start
 row : (m : ℕ) (z : ℤ) → 1 ≤ m → m ≤ 32 → natural (z +ℤ pos (m - 1)) ≡ datum z + m - 33
@@ -109,6 +109,6 @@ unfolding cellFrom
 cell-read T m table r h t e i = rw (i, e)
 
 -- the number of cells is as the settings have it
-pub cells-sound : {s : Settings} → Sound s → cells (s .height) (s .«set») ≡ s .cells
+pub cells-sound : {s : Settings} → Sound s → cells (s .height) (s .members) ≡ s .cells
 unfolding cells rows
 cells-sound {s} k = rw (← k .greatest) (sym (k .cells-are ∙ ap (λ (x : ℕ). x * s .tmax) (k .rows-are)))

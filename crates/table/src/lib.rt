@@ -57,11 +57,11 @@ fn fails(reason: Reason, place: usize) -> Checked
 }
 
 // The most that a cell of thickness t can hold.
-fn limit_of(set: u32, columns: u32, t: usize) -> u32
+fn limit_of(members: u32, columns: u32, t: usize) -> u32
     requires { ⌜ (columns ≤ 1000000) × (t ≤ 32) ⌝ }
-    ensures { λ r. ⌜ r ≡ limit «set» columns t ⌝ }
+    ensures { λ r. ⌜ r ≡ limit members columns t ⌝ }
 {
-    if is_allowed(set, t) {
+    if is_allowed(members, t) {
         columns * ((t / 2) as u32)
     } else {
         0
@@ -69,14 +69,14 @@ fn limit_of(set: u32, columns: u32, t: usize) -> u32
 }
 
 // The limits of all 32 thicknesses.
-fn limits_of(set: u32, columns: u32) -> [u32; 32]
+fn limits_of(members: u32, columns: u32) -> [u32; 32]
     requires { ⌜ columns ≤ 1000000 ⌝ }
-    ensures { λ r. ⌜ Limits «set» columns r ⌝ }
+    ensures { λ r. ⌜ Limits members columns r ⌝ }
 {
     let mut limits = [0u32; 32];
     let mut j: usize = 0;
     while j < 32 {
-        limits[j] = limit_of(set, columns, j + 1);
+        limits[j] = limit_of(members, columns, j + 1);
         j += 1;
     }
     limits
@@ -159,9 +159,9 @@ fn search_above(table: &[u32], limits: &[u32; 32], base: usize, width: usize) ->
 fn first_out(table: &[u32], s: Settings, columns: u32) -> usize
     requires { ⌜ Sound s ⌝ }
     requires { ⌜ (columns ≤ 1000000) × (s .cells ≤ length (now table)) ⌝ }
-    ensures { λ r. ⌜ r ≡ firstOut (s .height) (s .«set») columns (now (table .entry)) ⌝ }
+    ensures { λ r. ⌜ r ≡ firstOut (s .height) (s .members) columns (now (table .entry)) ⌝ }
 {
-    let limits = limits_of(s.set, columns);
+    let limits = limits_of(s.members, columns);
     if !any_out(table, &limits, s) {
         return s.cells;
     }
@@ -244,9 +244,9 @@ fn first_not_part(table: &[u32], other: &[u32], s: Settings, columns: u32) -> us
     requires { ⌜ Sound s ⌝ }
     requires { ⌜ (columns ≤ 1000000) × ((s .cells ≤ length (now table)) × (s .cells ≤ length (now other))) ⌝ }
     requires { ⌜ UnderGreatest (s .cells) (now other) ⌝ }
-    ensures { λ r. ⌜ r ≡ firstNotPart (s .height) (s .«set») columns (now (table .entry)) (now (other .entry)) ⌝ }
+    ensures { λ r. ⌜ r ≡ firstNotPart (s .height) (s .members) columns (now (table .entry)) (now (other .entry)) ⌝ }
 {
-    let limits = limits_of(s.set, columns);
+    let limits = limits_of(s.members, columns);
     let mut row: usize = 0;
     while row < s.rows {
         let base = row * s.tmax;
@@ -263,10 +263,10 @@ fn first_not_part(table: &[u32], other: &[u32], s: Settings, columns: u32) -> us
 fn addend_of(column: &[u16], s: Settings, row: usize, j: usize) -> u32
     requires { ⌜ Sound s ⌝ }
     requires { ⌜ (row < s .rows) × (j < s .tmax) ⌝ }
-    ensures { λ r. ⌜ (r ≡ addend (s .«set») (now (column .entry)) (row * s .tmax + j)) × (r ≤ 32) ⌝ }
+    ensures { λ r. ⌜ (r ≡ addend (s .members) (now (column .entry)) (row * s .tmax + j)) × (r ≤ 32) ⌝ }
 {
     let t = j + 1;
-    if is_allowed(s.set, t) {
+    if is_allowed(s.members, t) {
         let h = row + 33 - s.tmax;
         let judged = judge(column, h as u16, t as u16);
         judged.share
@@ -286,7 +286,7 @@ fn is_heaped(
 ) -> bool
     requires { ⌜ Sound s ⌝ }
     requires { ⌜ (row < s .rows) × ((j < s .tmax) × (s .cells ≤ length (now table))) ⌝ }
-    ensures { λ r. ⌜ r ≡ heaped (s .«set») (now (limits .entry)) (now (table .entry)) (now (column .entry)) (row * s .tmax) j ⌝ }
+    ensures { λ r. ⌜ r ≡ heaped (s .members) (now (limits .entry)) (now (table .entry)) (now (column .entry)) (row * s .tmax) j ⌝ }
 {
     if 0 < addend_of(column, s, row, j) {
         return limits[j] < table[row * s.tmax + j];
@@ -298,7 +298,7 @@ fn is_heaped(
 fn heaped_row(table: &[u32], column: &[u16], limits: &[u32; 32], s: Settings, row: usize) -> usize
     requires { ⌜ Sound s ⌝ }
     requires { ⌜ (row < s .rows) × (s .cells ≤ length (now table)) ⌝ }
-    ensures { λ r. ⌜ r ≡ lowest (heaped (s .«set») (now (limits .entry)) (now (table .entry)) (now (column .entry)) (row * s .tmax)) (s .tmax) ⌝ }
+    ensures { λ r. ⌜ r ≡ lowest (heaped (s .members) (now (limits .entry)) (now (table .entry)) (now (column .entry)) (row * s .tmax)) (s .tmax) ⌝ }
 {
     let mut j: usize = 0;
     while j < s.tmax {
@@ -314,9 +314,9 @@ fn heaped_row(table: &[u32], column: &[u16], limits: &[u32; 32], s: Settings, ro
 fn first_overfull(table: &[u32], column: &[u16], s: Settings, columns: u32) -> usize
     requires { ⌜ Sound s ⌝ }
     requires { ⌜ (columns ≤ 1000000) × (s .cells ≤ length (now table)) ⌝ }
-    ensures { λ r. ⌜ r ≡ firstOverfull (s .height) (s .«set») columns (now (table .entry)) (now (column .entry)) ⌝ }
+    ensures { λ r. ⌜ r ≡ firstOverfull (s .height) (s .members) columns (now (table .entry)) (now (column .entry)) ⌝ }
 {
-    let limits = limits_of(s.set, columns);
+    let limits = limits_of(s.members, columns);
     let mut row: usize = 0;
     while row < s.rows {
         let j = heaped_row(table, column, &limits, s, row);
@@ -332,8 +332,8 @@ fn first_overfull(table: &[u32], column: &[u16], s: Settings, columns: u32) -> u
 fn add_row(table: &mut [u32], column: &[u16], s: Settings, row: usize)
     requires { ⌜ Sound s ⌝ }
     requires { ⌜ (row < s .rows) × (s .cells ≤ length (now table)) ⌝ }
-    requires { ⌜ ((j : ℕ) → j < s .tmax → getD (now table) (row * s .tmax + j) 0 + addend (s .«set») (now column) (row * s .tmax + j) < 4294967296) ⌝ }
-    ensures { λ _. ⌜ Span 0 (row * s .tmax) (s .tmax) (λ j x. x + addend (s .«set») (now (column .entry)) (row * s .tmax + j)) (now (table .entry)) (now (table .exit)) ⌝ }
+    requires { ⌜ ((j : ℕ) → j < s .tmax → getD (now table) (row * s .tmax + j) 0 + addend (s .members) (now column) (row * s .tmax + j) < 4294967296) ⌝ }
+    ensures { λ _. ⌜ Span 0 (row * s .tmax) (s .tmax) (λ j x. x + addend (s .members) (now (column .entry)) (row * s .tmax + j)) (now (table .entry)) (now (table .exit)) ⌝ }
 {
     let base = row * s.tmax;
     let mut j: usize = 0;
@@ -351,8 +351,8 @@ fn add_row(table: &mut [u32], column: &[u16], s: Settings, row: usize)
 fn add_rows(table: &mut [u32], column: &[u16], s: Settings)
     requires { ⌜ Sound s ⌝ }
     requires { ⌜ s .cells ≤ length (now table) ⌝ }
-    requires { ⌜ ((i : ℕ) → i < s .cells → getD (now table) i 0 + addend (s .«set») (now column) i < 4294967296) ⌝ }
-    ensures { λ _. ⌜ Span 0 0 (s .cells) (λ i x. x + addend (s .«set») (now (column .entry)) i) (now (table .entry)) (now (table .exit)) ⌝ }
+    requires { ⌜ ((i : ℕ) → i < s .cells → getD (now table) i 0 + addend (s .members) (now column) i < 4294967296) ⌝ }
+    ensures { λ _. ⌜ Span 0 0 (s .cells) (λ i x. x + addend (s .members) (now (column .entry)) i) (now (table .entry)) (now (table .exit)) ⌝ }
 {
     let mut row: usize = 0;
     while row < s.rows {
@@ -399,7 +399,7 @@ fn take_cells(table: &mut [u32], other: &[u32], cells: usize)
 // Where the settings are in order: 3, 7, 6.
 fn check_rest(table: &[u32], s: Settings, columns: u32) -> Checked
     requires { ⌜ Sound s ⌝ }
-    ensures { λ r. ⌜ saidBy r ≡ first (tableRest (s .height) (s .«set») columns (now (table .entry))) ⌝ }
+    ensures { λ r. ⌜ saidBy r ≡ first (tableRest (s .height) (s .members) columns (now (table .entry))) ⌝ }
 {
     if table.len() < s.cells {
         return fails(Reason::ShortBuffer, 1);
@@ -415,10 +415,10 @@ fn check_rest(table: &[u32], s: Settings, columns: u32) -> Checked
 }
 
 // Whether a table of so many columns is in order: 1, 2, 3, 7, 6.
-pub fn check_table(table: &[u32], height: u32, set: u32, tally: Tally) -> Checked
-    ensures { λ r. ⌜ saidBy r ≡ first (tableChecks height «set» (tally .columns) (now (table .entry))) ⌝ }
+pub fn check_table(table: &[u32], height: u32, members: u32, tally: Tally) -> Checked
+    ensures { λ r. ⌜ saidBy r ≡ first (tableChecks height members (tally .columns) (now (table .entry))) ⌝ }
 {
-    let made = Settings::new(height, set);
+    let made = Settings::new(height, members);
     match made {
         Made::Bad(reason) => fails(reason, 0),
         Made::Good(s) => check_rest(table, s, tally.columns),
@@ -426,10 +426,10 @@ pub fn check_table(table: &[u32], height: u32, set: u32, tally: Tally) -> Checke
 }
 
 // Document 01, 'Clear a table': 1, 2, 3.
-pub fn clear_table(table: &mut [u32], height: u32, set: u32) -> Tabled
-    ensures { λ r. ⌜ (toldTable r ≡ clearAnswer height «set» (now (table .entry))) × (now (table .exit) ≡ clearTable height «set» (now (table .entry))) ⌝ }
+pub fn clear_table(table: &mut [u32], height: u32, members: u32) -> Tabled
+    ensures { λ r. ⌜ (toldTable r ≡ clearAnswer height members (now (table .entry))) × (now (table .exit) ≡ clearTable height members (now (table .entry))) ⌝ }
 {
-    let made = Settings::new(height, set);
+    let made = Settings::new(height, members);
     match made {
         Made::Bad(reason) => refused(reason, 0),
         Made::Good(s) => {
@@ -446,8 +446,8 @@ pub fn clear_table(table: &mut [u32], height: u32, set: u32) -> Tabled
 // Where the settings are in order: 3, 7, 4, 5, 6, and then the column.
 fn add_with(table: &mut [u32], s: Settings, columns: u32, column: &[u16]) -> Tabled
     requires { ⌜ Sound s ⌝ }
-    ensures { λ r. ⌜ (toldTable r ≡ decided (addRest (s .height) (s .«set») columns (now (table .entry)) (now (column .entry))) (tallyOf (columns + 1)))
-        × (now (table .exit) ≡ after (decided (addRest (s .height) (s .«set») columns (now (table .entry)) (now (column .entry))) (tallyOf (columns + 1))) (added (s .height) (s .«set») (now (table .entry)) (now (column .entry))) (now (table .entry))) ⌝ }
+    ensures { λ r. ⌜ (toldTable r ≡ decided (addRest (s .height) (s .members) columns (now (table .entry)) (now (column .entry))) (tallyOf (columns + 1)))
+        × (now (table .exit) ≡ after (decided (addRest (s .height) (s .members) columns (now (table .entry)) (now (column .entry))) (tallyOf (columns + 1))) (added (s .height) (s .members) (now (table .entry)) (now (column .entry))) (now (table .entry))) ⌝ }
 {
     if table.len() < s.cells {
         return refused(Reason::ShortBuffer, 1);
@@ -470,11 +470,17 @@ fn add_with(table: &mut [u32], s: Settings, columns: u32, column: &[u16]) -> Tab
 }
 
 // Document 01, 'Add a column': 1, 2, 3, 7, 4, 5, 6.
-pub fn add_column(table: &mut [u32], height: u32, set: u32, tally: Tally, column: &[u16]) -> Tabled
-    ensures { λ r. ⌜ (toldTable r ≡ addAnswer height «set» (tally .columns) (now (table .entry)) (now (column .entry)))
-        × (now (table .exit) ≡ addTable height «set» (tally .columns) (now (table .entry)) (now (column .entry))) ⌝ }
+pub fn add_column(
+    table: &mut [u32],
+    height: u32,
+    members: u32,
+    tally: Tally,
+    column: &[u16],
+) -> Tabled
+    ensures { λ r. ⌜ (toldTable r ≡ addAnswer height members (tally .columns) (now (table .entry)) (now (column .entry)))
+        × (now (table .exit) ≡ addTable height members (tally .columns) (now (table .entry)) (now (column .entry))) ⌝ }
 {
-    let made = Settings::new(height, set);
+    let made = Settings::new(height, members);
     match made {
         Made::Bad(reason) => refused(reason, 0),
         Made::Good(s) => add_with(table, s, tally.columns, column),
@@ -482,21 +488,21 @@ pub fn add_column(table: &mut [u32], height: u32, set: u32, tally: Tally, column
 }
 
 // 1 and 2 for the first settings, then for the second; 8; or the settings that both have.
-fn pair_of(height: u32, set: u32, other_height: u32, other_set: u32) -> Made
-    ensures { λ r. ⌜ Paired r height «set» «other_height» «other_set» ⌝ }
+fn pair_of(height: u32, members: u32, other_height: u32, other_members: u32) -> Made
+    ensures { λ r. ⌜ Paired r height members «other_height» «other_members» ⌝ }
 {
-    let made = Settings::new(height, set);
+    let made = Settings::new(height, members);
     match made {
         Made::Bad(reason) => Made::Bad(reason),
         Made::Good(s) => {
-            let other = Settings::new(other_height, other_set);
+            let other = Settings::new(other_height, other_members);
             match other {
                 Made::Bad(reason) => Made::Bad(reason),
                 Made::Good(_) => {
                     if height != other_height {
                         return Made::Bad(Reason::Settings);
                     }
-                    if set != other_set {
+                    if members != other_members {
                         return Made::Bad(Reason::Settings);
                     }
                     Made::Good(s)
@@ -516,7 +522,7 @@ fn check_pair(
 ) -> Checked
     requires { ⌜ Sound s ⌝ }
     requires { ⌜ ((columns ≤ 1000000) × («other_columns» ≤ 1000000)) × ((s .cells ≤ length (now table)) × (s .cells ≤ length (now other))) ⌝ }
-    ensures { λ r. ⌜ saidBy r ≡ first (pairOut (s .height) (s .«set») columns (now (table .entry)) «other_columns» (now (other .entry))) ⌝ }
+    ensures { λ r. ⌜ saidBy r ≡ first (pairOut (s .height) (s .members) columns (now (table .entry)) «other_columns» (now (other .entry))) ⌝ }
 {
     let out = first_out(table, s, columns);
     if out < s.cells {
@@ -538,8 +544,8 @@ fn join_with(
     s: Settings,
 ) -> Tabled
     requires { ⌜ Sound s ⌝ }
-    ensures { λ r. ⌜ (toldTable r ≡ decided (joinRest (s .height) (s .«set») columns (now (table .entry)) «other_columns» (now (other .entry))) (tallyOf (columns + «other_columns»)))
-        × (now (table .exit) ≡ after (decided (joinRest (s .height) (s .«set») columns (now (table .entry)) «other_columns» (now (other .entry))) (tallyOf (columns + «other_columns»))) (joined (s .height) (s .«set») (now (table .entry)) (now (other .entry))) (now (table .entry))) ⌝ }
+    ensures { λ r. ⌜ (toldTable r ≡ decided (joinRest (s .height) (s .members) columns (now (table .entry)) «other_columns» (now (other .entry))) (tallyOf (columns + «other_columns»)))
+        × (now (table .exit) ≡ after (decided (joinRest (s .height) (s .members) columns (now (table .entry)) «other_columns» (now (other .entry))) (tallyOf (columns + «other_columns»))) (joined (s .height) (s .members) (now (table .entry)) (now (other .entry))) (now (table .entry))) ⌝ }
 {
     let cells = s.cells;
     if table.len() < cells {
@@ -571,17 +577,17 @@ fn join_with(
 pub fn join_tables(
     table: &mut [u32],
     height: u32,
-    set: u32,
+    members: u32,
     tally: Tally,
     other: &[u32],
     other_height: u32,
-    other_set: u32,
+    other_members: u32,
     other_tally: Tally,
 ) -> Tabled
-    ensures { λ r. ⌜ (toldTable r ≡ joinAnswer height «set» (tally .columns) (now (table .entry)) «other_height» «other_set» («other_tally» .columns) (now (other .entry)))
-        × (now (table .exit) ≡ joinTable height «set» (tally .columns) (now (table .entry)) «other_height» «other_set» («other_tally» .columns) (now (other .entry))) ⌝ }
+    ensures { λ r. ⌜ (toldTable r ≡ joinAnswer height members (tally .columns) (now (table .entry)) «other_height» «other_members» («other_tally» .columns) (now (other .entry)))
+        × (now (table .exit) ≡ joinTable height members (tally .columns) (now (table .entry)) «other_height» «other_members» («other_tally» .columns) (now (other .entry))) ⌝ }
 {
-    let made = pair_of(height, set, other_height, other_set);
+    let made = pair_of(height, members, other_height, other_members);
     match made {
         Made::Bad(reason) => refused(reason, 0),
         Made::Good(s) => join_with(table, tally.columns, other, other_tally.columns, s),
@@ -599,8 +605,8 @@ fn take_part(
     requires { ⌜ Sound s ⌝ }
     requires { ⌜ (columns ≤ 1000000) × ((s .cells ≤ length (now table)) × (s .cells ≤ length (now other))) ⌝ }
     requires { ⌜ UnderGreatest (s .cells) (now other) ⌝ }
-    ensures { λ r. ⌜ (toldTable r ≡ decided (partChecks (s .height) (s .«set») columns (now (table .entry)) «other_columns» (now (other .entry))) (tallyOf (columns - «other_columns»)))
-        × (now (table .exit) ≡ after (decided (partChecks (s .height) (s .«set») columns (now (table .entry)) «other_columns» (now (other .entry))) (tallyOf (columns - «other_columns»))) (taken (s .height) (s .«set») (now (table .entry)) (now (other .entry))) (now (table .entry))) ⌝ }
+    ensures { λ r. ⌜ (toldTable r ≡ decided (partChecks (s .height) (s .members) columns (now (table .entry)) «other_columns» (now (other .entry))) (tallyOf (columns - «other_columns»)))
+        × (now (table .exit) ≡ after (decided (partChecks (s .height) (s .members) columns (now (table .entry)) «other_columns» (now (other .entry))) (tallyOf (columns - «other_columns»))) (taken (s .height) (s .members) (now (table .entry)) (now (other .entry))) (now (table .entry))) ⌝ }
 {
     let cells = s.cells;
     if columns < other_columns {
@@ -624,8 +630,8 @@ fn take_with(
     s: Settings,
 ) -> Tabled
     requires { ⌜ Sound s ⌝ }
-    ensures { λ r. ⌜ (toldTable r ≡ decided (takeRest (s .height) (s .«set») columns (now (table .entry)) «other_columns» (now (other .entry))) (tallyOf (columns - «other_columns»)))
-        × (now (table .exit) ≡ after (decided (takeRest (s .height) (s .«set») columns (now (table .entry)) «other_columns» (now (other .entry))) (tallyOf (columns - «other_columns»))) (taken (s .height) (s .«set») (now (table .entry)) (now (other .entry))) (now (table .entry))) ⌝ }
+    ensures { λ r. ⌜ (toldTable r ≡ decided (takeRest (s .height) (s .members) columns (now (table .entry)) «other_columns» (now (other .entry))) (tallyOf (columns - «other_columns»)))
+        × (now (table .exit) ≡ after (decided (takeRest (s .height) (s .members) columns (now (table .entry)) «other_columns» (now (other .entry))) (tallyOf (columns - «other_columns»))) (taken (s .height) (s .members) (now (table .entry)) (now (other .entry))) (now (table .entry))) ⌝ }
 {
     if table.len() < s.cells {
         return refused(Reason::ShortBuffer, 1);
@@ -650,17 +656,17 @@ fn take_with(
 pub fn take_off(
     table: &mut [u32],
     height: u32,
-    set: u32,
+    members: u32,
     tally: Tally,
     other: &[u32],
     other_height: u32,
-    other_set: u32,
+    other_members: u32,
     other_tally: Tally,
 ) -> Tabled
-    ensures { λ r. ⌜ (toldTable r ≡ takeAnswer height «set» (tally .columns) (now (table .entry)) «other_height» «other_set» («other_tally» .columns) (now (other .entry)))
-        × (now (table .exit) ≡ takeTable height «set» (tally .columns) (now (table .entry)) «other_height» «other_set» («other_tally» .columns) (now (other .entry))) ⌝ }
+    ensures { λ r. ⌜ (toldTable r ≡ takeAnswer height members (tally .columns) (now (table .entry)) «other_height» «other_members» («other_tally» .columns) (now (other .entry)))
+        × (now (table .exit) ≡ takeTable height members (tally .columns) (now (table .entry)) «other_height» «other_members» («other_tally» .columns) (now (other .entry))) ⌝ }
 {
-    let made = pair_of(height, set, other_height, other_set);
+    let made = pair_of(height, members, other_height, other_members);
     match made {
         Made::Bad(reason) => refused(reason, 0),
         Made::Good(s) => take_with(table, tally.columns, other, other_tally.columns, s),

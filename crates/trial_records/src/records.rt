@@ -61,7 +61,7 @@ fn narrow(number: u64) -> u32 {
 fn state_of(numbers: [u64; 8]) -> State {
     let asked = Asked {
         height: narrow(numbers[3]),
-        set: narrow(numbers[4]),
+        members: narrow(numbers[4]),
         bound: narrow(numbers[5]),
     };
     State {

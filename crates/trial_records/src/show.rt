@@ -42,7 +42,7 @@ pub(crate) fn asked(asked: Asked) {
     text(b" height");
     next32(asked.height);
     text(b", set");
-    next32(asked.set);
+    next32(asked.members);
     text(b", bound");
     next32(asked.bound);
 }

@@ -20,17 +20,17 @@ pub const NO_BOUND: u32 = 4294967295;
 // The settings, the column count and the bound that a call is handed, good or not.
 pub struct Job {
     pub height: u32,
-    pub set: u32,
+    pub members: u32,
     pub columns: u32,
     pub bound: u32,
 }
 
 impl Job {
     // No bound in effect.
-    pub(crate) fn of(height: u32, set: u32, columns: u32) -> Self {
+    pub(crate) fn of(height: u32, members: u32, columns: u32) -> Self {
         Job {
             height,
-            set,
+            members,
             columns,
             bound: NO_BOUND,
         }
@@ -75,22 +75,22 @@ fn tallied(answer: Tabled) -> Told {
 }
 
 pub(crate) fn clear(table: &mut [u32], job: Job) -> Told {
-    tallied(clear_table(table, job.height, job.set))
+    tallied(clear_table(table, job.height, job.members))
 }
 
 pub(crate) fn add(table: &mut [u32], job: Job, column: &[u16]) -> Told {
-    tallied(add_column(table, job.height, job.set, job.tally(), column))
+    tallied(add_column(table, job.height, job.members, job.tally(), column))
 }
 
 fn join(table: &mut [u32], job: Job, other: &[u32], second: Job) -> Told {
     tallied(join_tables(
         table,
         job.height,
-        job.set,
+        job.members,
         job.tally(),
         other,
         second.height,
-        second.set,
+        second.members,
         second.tally(),
     ))
 }
@@ -99,11 +99,11 @@ fn take(table: &mut [u32], job: Job, other: &[u32], second: Job) -> Told {
     tallied(take_off(
         table,
         job.height,
-        job.set,
+        job.members,
         job.tally(),
         other,
         second.height,
-        second.set,
+        second.members,
         second.tally(),
     ))
 }
@@ -118,7 +118,7 @@ pub(crate) fn planned(
     counted(plan(
         table,
         job.height,
-        job.set,
+        job.members,
         job.tally(),
         job.bound,
         errors,
@@ -134,15 +134,22 @@ pub(crate) fn read(
     count: u32,
     out: &mut [i32],
 ) -> Told {
-    counted(read_back(job.height, job.set, errors, thicknesses, count, out))
+    counted(read_back(job.height, job.members, errors, thicknesses, count, out))
 }
 
 pub(crate) fn recounted(table: &[u32], job: Job, sequence: &[i32]) -> Told {
-    counted(recount(table, job.height, job.set, job.tally(), job.bound, sequence))
+    counted(recount(
+        table,
+        job.height,
+        job.members,
+        job.tally(),
+        job.bound,
+        sequence,
+    ))
 }
 
 pub(crate) fn pictured(column: &[u16], job: Job, start: i32, thickness: u32) -> Pictured {
-    picture(column, job.height, job.set, start, thickness)
+    picture(column, job.height, job.members, start, thickness)
 }
 
 // The second joined into the first, or taken off it.

@@ -24,17 +24,17 @@ module _ (N T : ℕ) (bs : List ℕ) (z : ℤ) (t : ℕ) where
   bad reason e = settings-bad N T (columnChecks N bs ++ layerChecks N T z t) (judgement bs z t) reason e
 
   good : (s : Settings) → Passed (Good s) N T
-      → decided (columnChecks (s .height) bs ++ layerChecks (s .height) (s .«set») z t) (judgement bs z t) ≡ pictureAnswer N T bs z t
+      → decided (columnChecks (s .height) bs ++ layerChecks (s .height) (s .members) z t) (judgement bs z t) ≡ pictureAnswer N T bs z t
   unfolding pictureAnswer pictureChecks
   good s p =
-      ap (λ (s : Settings). decided (columnChecks (s .height) bs ++ layerChecks (s .height) (s .«set») z t) (judgement bs z t)) (p .1)
+      ap (λ (s : Settings). decided (columnChecks (s .height) bs ++ layerChecks (s .height) (s .members) z t) (judgement bs z t)) (p .1)
       ∙ settings-good N T (columnChecks N bs ++ layerChecks N T z t) (judgement bs z t) (p .0)
 
 -- what the settings that were made tell
-made : (c : tie.After-known-told2) → Passed (Good (c .before .made2 .given .0 .0)) (c .before .before .before .before .before .args .height) (c .before .before .before .before .before .args .«set»)
+made : (c : tie.After-known-told2) → Passed (Good (c .before .made2 .given .0 .0)) (c .before .before .before .before .before .args .height) (c .before .before .before .before .before .args .members)
 made c =
     let s = c .before .before .before .before .before in
-    subst (λ (m : Made). Passed m (s .args .height) (s .args .«set»)) (c .before .made2 .given .1) (c .before .before .before .new .ensures .1)
+    subst (λ (m : Made). Passed m (s .args .height) (s .args .members)) (c .before .made2 .given .1) (c .before .before .before .new .ensures .1)
 
 returns : tie.Need-returns
 returns c =
@@ -46,7 +46,7 @@ returns-2 c =
     let s = c .before .before .before .before .before .before in
     c .picture-of .ensures
     ∙ good _ _ _ _ _ _ (made (c .before))
-    ∙ ap (λ (z : ℤ). pictureAnswer (s .args .height) (s .args .«set») (s .args .column .now) z (s .args .thickness)) (toZ-ofZ w32 (s .args .start) (s .fits .start))
+    ∙ ap (λ (z : ℤ). pictureAnswer (s .args .height) (s .args .members) (s .args .column .now) z (s .args .thickness)) (toZ-ofZ w32 (s .args .start) (s .fits .start))
 
 pub picture-spec : {M : Type 1} → statement M
 picture-spec =

@@ -75,7 +75,7 @@ returns-3 c =
     ∙ out-start _ _ _ _ _ _ (fine d) (start-high _ _ _ (p .low) (omega (arith, p .greatest, p .thin, p .order)) (omega (arith, p .greatest, p .thick)) (omega (arith, h-is d, p .greatest)) (omega (arith, h-is d, p .greatest)))
 
 inside : (d : tie.After-datum-of) → 33 ≤ d .datum-of .result + s d .args .s .tmax → d .datum-of .result ≤ s d .args .s .height + s d .args .s .tmax + 30
-    → startOutside (s d .args .s .height) (s d .args .s .«set») (s d .args .start) ≡ false
+    → startOutside (s d .args .s .height) (s d .args .s .members) (s d .args .start) ≡ false
 inside d l u =
     let p = s d .pre in
     start-in _ _ _ (p .low) (omega (arith, p .greatest, p .thin, p .order)) (omega (arith, p .greatest, p .thick)) (omega (arith, h-is d, p .greatest)) (omega (arith, h-is d, p .greatest))

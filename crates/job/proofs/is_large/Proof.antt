@@ -29,7 +29,7 @@ unmade r reason N T e m fine =
 returns : tie.Need-returns
 returns c =
     let a = c .before .before .before .before .before .before .args in
-    let e = made _ _ (a .asked .height) (a .asked .«set») (c .before .before .before .made .given .1) (c .before .before .before .before .before .new .ensures .1) in
+    let e = made _ _ (a .asked .height) (a .asked .members) (c .before .before .before .made .given .1) (c .before .before .before .before .before .new .ensures .1) in
     let f = ap (λ (s : Settings). s .cells) e in
     simp (lt-ltb _ _ (subst (λ (n : ℕ). a .most < n) f (c .if1 .taken)))
 
@@ -39,7 +39,7 @@ returns-2 c = absurd (unmade _ _ _ _ (c .enum-told .given .1) (c .before .before
 returns-3 : tie.Need-returns-3
 returns-3 c =
     let a = c .before .before .before .before .before .before .before .args in
-    let e = made _ _ (a .asked .height) (a .asked .«set») (c .before .before .before .before .made .given .1) (c .before .before .before .before .before .before .new .ensures .1) in
+    let e = made _ _ (a .asked .height) (a .asked .members) (c .before .before .before .before .made .given .1) (c .before .before .before .before .before .before .new .ensures .1) in
     let f = ap (λ (s : Settings). s .cells) e in
     rw (ap (λ (s : Settings). s .entries) e) (simp (le-ltb _ _ (subst (λ (n : ℕ). n ≤ a .most) f (c .before .if1 .left))))
 

@@ -18,7 +18,7 @@ returns : tie.Need-returns
 returns c = judged-tail _ _ _ _ _ (c .before .before .before .enum-told .given .1) _ (c .before .if1 .taken) (c .heed-refused2 .ensures)
 
 -- the settings of a settings record are in order
-in-order : (r : Read) (a : Asked) → r ≡ read.Settings a → Sane (toldRead r) → first (settingsChecks (a .height) (a .«set»)) ≡ none
+in-order : (r : Read) (a : Asked) → r ≡ read.Settings a → Sane (toldRead r) → first (settingsChecks (a .height) (a .members)) ≡ none
 in-order r a e p = subst (λ (x : Read). Sane (toldRead x)) e p
 
 is-large-requires : tie.Need-is-large-requires

@@ -34,7 +34,7 @@ returns-2 c =
     let w = d .before .before .before .before .pre in
     let e = says _ _ _ (d .clear-table .ensures .0) (c .before .before .before .before .enum-told .given .1) in
     let f = c .before .before .fill .ensures in
-    (loaded _ _ _ w _ _ e _ (f .1), written _ _ _ w _ _ e _ (f .0 ∙ ap (tableOf (a .asked .height) (a .asked .«set») _) (d .clear-table .ensures .1)))
+    (loaded _ _ _ w _ _ e _ (f .1), written _ _ _ w _ _ e _ (f .0 ∙ ap (tableOf (a .asked .height) (a .asked .members) _) (d .clear-table .ensures .1)))
 
 pub load-whole-spec : {M : Type 1} → statement M
 load-whole-spec =

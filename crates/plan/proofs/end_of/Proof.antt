@@ -18,7 +18,7 @@ use Rattle.plan.proofs.end_of.Tie as tie
 
 -- the best of the k lowest end heights
 abbrev seen : List ℕ → Settings → ℕ → ℕ → Best
-seen errors s n k = bestOf (λ h. unmark (entry (s .height) (s .«set») errors n h)) (s .height + 32) k
+seen errors s n k = bestOf (λ h. unmark (entry (s .height) (s .members) errors n h)) (s .height + 32) k
 
 abbrev Inv-loop : tie.InvT-loop
 Inv-loop errors s n first width error₀ top₀ k₀ error top k =
@@ -40,7 +40,7 @@ module _ (l : tie.At-loop Inv-loop μ-loop) where
   at = (s .args .s .height + s .args .s .tmax - 1 + l .loop .k) * (s .args .s .counts + 1) + s .args .n
 
   abbrev ends : ℕ → Option ℕ
-  ends h = unmark (entry (s .args .s .height) (s .args .s .«set») (s .args .errors .now) (s .args .n) h)
+  ends h = unmark (entry (s .args .s .height) (s .args .s .members) (s .args .errors .now) (s .args .n) h)
 
   inside : l .loop .k < s .args .s .tmax → at < s .args .s .entries
   inside b = end-in (s .args .s) (s .pre .0) (s .args .n) (l .loop .k) (s .pre .1 .1) b
@@ -67,7 +67,7 @@ returns : tie.Need-returns Inv-loop μ-loop
 unfolding endOf
 returns c =
     let l = c .before .before in
-    let e : l .loop .k ≡ tmax (s l .args .s .«set») = omega (arith, s l .pre .0 .greatest) in
+    let e : l .loop .k ≡ tmax (s l .args .s .members) = omega (arith, s l .pre .0 .greatest) in
     rw (← e) (l .loop .inv .1, l .loop .inv .2)
 
 pub end-of-spec : {M : Type 1} → statement M

@@ -27,24 +27,24 @@ module _ (N T c : ℕ) (table : List ℕ) (bound : ℕ) (lent : Sheets) where
       let a = settings-bad N T (planRest N T c table lent) (M N T) reason q in
       (ap told e ∙ a, after-refused _ (numberOf reason) 0 (planned N T bound table lent) lent a)
 
-  good : (s : Settings) (r : Answer) (left : Sheets) → Passed (Good s) N T → Fills (planRest (s .height) (s .«set») c table lent) (s .height) (s .«set») bound table (told r) lent left
+  good : (s : Settings) (r : Answer) (left : Sheets) → Passed (Good s) N T → Fills (planRest (s .height) (s .members) c table lent) (s .height) (s .members) bound table (told r) lent left
       → (told r ≡ planAnswer N T c table lent) × (left ≡ planSheets N T c table bound lent)
   unfolding planSheets planAnswer
   good s r left p f =
-      let b = subst (λ (s : Settings). Fills (planRest (s .height) (s .«set») c table lent) (s .height) (s .«set») bound table (told r) lent left) (p .1) f in
+      let b = subst (λ (s : Settings). Fills (planRest (s .height) (s .members) c table lent) (s .height) (s .members) bound table (told r) lent left) (p .1) f in
       let e = b .tells ∙ settings-good N T (planRest N T c table lent) (M N T) (p .0) in
       (e, b .leaves ∙ ap (λ (t : Told ℕ). after t (planned N T bound table lent) lent) e)
 
 made : (c : tie.After-known-told2)
-    → Passed (Good (c .before .made2 .given .0 .0)) (c .before .before .before .before .before .before .before .before .args .height) (c .before .before .before .before .before .before .before .before .args .«set»)
+    → Passed (Good (c .before .made2 .given .0 .0)) (c .before .before .before .before .before .before .before .before .args .height) (c .before .before .before .before .before .before .before .before .args .members)
 made c =
     let s = c .before .before .before .before .before .before .before .before in
-    subst (λ (m : Made). Passed m (s .args .height) (s .args .«set»)) (c .before .made2 .given .1) (c .before .before .before .new .ensures .1)
+    subst (λ (m : Made). Passed m (s .args .height) (s .args .members)) (c .before .made2 .given .1) (c .before .before .before .new .ensures .1)
 
 plan-with-requires : tie.Need-plan-with-requires
 plan-with-requires c κs =
     let p = made (c .before .before .before) in
-    (p .2, subst (λ (s : Settings). first (settingsChecks (s .height) (s .«set»)) ≡ none) (sym (p .1)) (p .0))
+    (p .2, subst (λ (s : Settings). first (settingsChecks (s .height) (s .members)) ≡ none) (sym (p .1)) (p .0))
 
 returns : tie.Need-returns
 returns c =

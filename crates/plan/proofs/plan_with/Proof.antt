@@ -70,32 +70,32 @@ module _ (c : tie.After-check-table) where
   roomy : Roomy
   roomy = record { table = omega arith; errors = omega arith; thicknesses = omega arith; leasts = omega arith }
 
-  tells : toldBy (saidBy (c .check-table .result)) (M (start .args .s .height) (start .args .s .«set»))
-      ≡ decided (planRest (start .args .s .height) (start .args .s .«set») (start .args .tally .columns) (start .args .table .now) (lent start)) (M (start .args .s .height) (start .args .s .«set»))
+  tells : toldBy (saidBy (c .check-table .result)) (M (start .args .s .height) (start .args .s .members))
+      ≡ decided (planRest (start .args .s .height) (start .args .s .members) (start .args .tally .columns) (start .args .table .now) (lent start)) (M (start .args .s .height) (start .args .s .members))
   tells =
       let k = start .pre .0 in
       let e = cells-sound k in
       let f = entries-is (start .args .s) k in
       let g = counts-is (start .args .s) k in
       let r = roomy in
-      said (start .args .s .height) (start .args .s .«set») (start .args .tally .columns) (start .args .table .now) (lent start)
+      said (start .args .s .height) (start .args .s .members) (start .args .tally .columns) (start .args .table .now) (lent start)
       (omega (arith, r .table)) (omega (arith, r .errors)) (omega (arith, r .thicknesses)) (omega (arith, r .leasts)) (start .pre .1) (c .check-table .result) (c .check-table .ensures)
 
-  within : none ≡ saidBy (c .check-table .result) → (start .args .tally .columns ≤ mostColumns) × (cells (start .args .s .height) (start .args .s .«set») ≤ firstOut (start .args .s .height) (start .args .s .«set») (start .args .tally .columns) (start .args .table .now))
+  within : none ≡ saidBy (c .check-table .result) → (start .args .tally .columns ≤ mostColumns) × (cells (start .args .s .height) (start .args .s .members) ≤ firstOut (start .args .s .height) (start .args .s .members) (start .args .tally .columns) (start .args .table .now))
   within q =
       let k = start .pre .0 in
       let e = cells-sound k in
       let f = entries-is (start .args .s) k in
       let g = counts-is (start .args .s) k in
       let r = roomy in
-      bounded (start .args .s .height) (start .args .s .«set») (start .args .tally .columns) (start .args .table .now) (lent start)
+      bounded (start .args .s .height) (start .args .s .members) (start .args .tally .columns) (start .args .table .now) (lent start)
       (omega (arith, r .table)) (omega (arith, r .errors)) (omega (arith, r .thicknesses)) (omega (arith, r .leasts)) (start .pre .1) (q ∙ c .check-table .ensures)
 
 returns-5 : tie.Need-returns-5
 returns-5 c =
     let d = c .before .before .before in
     stops _ _ _ _ _ _ (c .before .checked .given .0 .0) (lent (start d)) refl
-    (ap (λ (x : Checked). toldBy (saidBy x) (M (start d .args .s .height) (start d .args .s .«set»))) (sym (c .before .checked .given .1)) ∙ tells d)
+    (ap (λ (x : Checked). toldBy (saidBy x) (M (start d .args .s .height) (start d .args .s .members))) (sym (c .before .checked .given .1)) ∙ tells d)
 
 plan-sheets-requires : tie.Need-plan-sheets-requires
 plan-sheets-requires c κs =
@@ -112,7 +112,7 @@ returns-6 c =
     let g = counts-is (s .args .s) k in
     let w = c .before .before .before .before .before .before .plan-sheets .ensures in
     record {
-      tells = ap done g ∙ ap (λ (x : Checked). toldBy (saidBy x) (M (s .args .s .height) (s .args .s .«set»))) (sym (c .before .before .before .before .before .before .before .before .before .before .enum-told .given .1)) ∙ tells d;
+      tells = ap done g ∙ ap (λ (x : Checked). toldBy (saidBy x) (M (s .args .s .height) (s .args .s .members))) (sym (c .before .before .before .before .before .before .before .before .before .before .enum-told .given .1)) ∙ tells d;
       leaves = λ i. sheetsOf (w .0 i) (w .1 .0 i) (w .1 .1 i);
     }
 

@@ -11,10 +11,10 @@ use Rattle.plan.proofs.read_back.Tie as tie
 
 -- what the settings that were made tell
 made : (c : tie.After-known-told2)
-    → Passed (Good (c .before .made2 .given .0 .0)) (c .before .before .before .before .before .before .args .height) (c .before .before .before .before .before .before .args .«set»)
+    → Passed (Good (c .before .made2 .given .0 .0)) (c .before .before .before .before .before .before .args .height) (c .before .before .before .before .before .before .args .members)
 made c =
     let s = c .before .before .before .before .before .before in
-    subst (λ (m : Made). Passed m (s .args .height) (s .args .«set»)) (c .before .made2 .given .1) (c .before .before .before .new .ensures .1)
+    subst (λ (m : Made). Passed m (s .args .height) (s .args .members)) (c .before .made2 .given .1) (c .before .before .before .new .ensures .1)
 
 returns : tie.Need-returns
 returns c =

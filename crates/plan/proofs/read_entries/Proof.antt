@@ -22,11 +22,11 @@ module _ (c : tie.After-end-of) where
   s = c .before .before .before
 
   abbrev end : Best
-  end = endOf (s .args .s .height) (s .args .s .«set») (s .args .errors .now) (s .args .n)
+  end = endOf (s .args .s .height) (s .args .s .members) (s .args .errors .now) (s .args .n)
 
   without-end : c .end-of .result .error ≡ missing → isNothing end ≡ true
   without-end e =
-      end-nothing end (end-small (s .args .errors .now) (λ i. omega (arith, c .before .before .shared-slice-known .given i)) (s .args .s .height) (s .args .s .«set») (s .args .n))
+      end-nothing end (end-small (s .args .errors .now) (λ i. omega (arith, c .before .before .shared-slice-known .given i)) (s .args .s .height) (s .args .s .members) (s .args .n))
       (sym (c .end-of .ensures .0) ∙ e)
 
   with-end : (c .end-of .result .error ≡ missing → ⊥) → isNothing end ≡ false
@@ -35,7 +35,7 @@ module _ (c : tie.After-end-of) where
   -- the walk down from the end that was found stays in the sheet
   within : (c .end-of .result .error ≡ missing → ⊥) → Within (s .args .s) (length (s .args .thicknesses .now)) (s .args .n) (c .end-of .result .top)
   within n =
-      let h = end-height (s .args .s .height) (s .args .s .«set») (s .args .errors .now) (s .args .n) (with-end n) in
+      let h = end-height (s .args .s .height) (s .args .s .members) (s .args .errors .now) (s .args .n) (with-end n) in
       let p = s .pre .0 in
       let r = s .pre .1 in
       record {

@@ -12,10 +12,10 @@ use Rattle.plan.proofs.read_sheets.Statement.{statement}
 use Rattle.plan.proofs.read_sheets.Tie as tie
 
 -- the sizes are document 01's
-size : (s : tie.Start) → s .args .s .entries ≡ entries (s .args .s .height) (s .args .s .«set»)
+size : (s : tie.Start) → s .args .s .entries ≡ entries (s .args .s .height) (s .args .s .members)
 size s = entries-is (s .args .s) (s .pre)
 
-most : (s : tie.Start) → s .args .s .counts ≡ M (s .args .s .height) (s .args .s .«set»)
+most : (s : tie.Start) → s .args .s .counts ≡ M (s .args .s .height) (s .args .s .members)
 most s = counts-is (s .args .s) (s .pre)
 
 returns : tie.Need-returns

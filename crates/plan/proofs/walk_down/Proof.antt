@@ -17,9 +17,9 @@ use Rattle.plan.proofs.walk_down.Tie as tie
 abbrev Inv-loop : tie.InvT-loop
 Inv-loop thicknesses s n top heights₀ h₀ k₀ heights h k =
     (k ≤ n) × (32 < h + s .tmax) × (h ≤ top) × (length heights ≡ length heights₀)
-    × (faultUnder (entry (s .height) (s .«set») thicknesses) (s .«set») n top ≡ faultUnder (entry (s .height) (s .«set») thicknesses) (s .«set») k h)
-    × (boundariesUnder (entry (s .height) (s .«set») thicknesses) k h (notedFrom (k + 1) n heights)
-    ≡ boundariesUnder (entry (s .height) (s .«set») thicknesses) n top [])
+    × (faultUnder (entry (s .height) (s .members) thicknesses) (s .members) n top ≡ faultUnder (entry (s .height) (s .members) thicknesses) (s .members) k h)
+    × (boundariesUnder (entry (s .height) (s .members) thicknesses) k h (notedFrom (k + 1) n heights)
+    ≡ boundariesUnder (entry (s .height) (s .members) thicknesses) n top [])
 
 abbrev μ-loop : tie.MeasureT-loop
 μ-loop thicknesses s n top heights₀ h₀ k₀ heights h k = k

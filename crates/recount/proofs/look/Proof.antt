@@ -20,7 +20,7 @@ module _ (c : tie.Else2) where
   abbrev a : tie.Start
   a = c .before .before .before .before
 
-  in-set : allowed (a .args .s .«set») (a .args .above - a .args .below) ≡ true
+  in-set : allowed (a .args .s .members) (a .args .above - a .args .below) ≡ true
   in-set = sym (c .before .is-allowed .ensures) ∙ not-false _ (c .if2 .left)
 
 -- past the test on the end
@@ -38,7 +38,7 @@ module _ (c : tie.Else3) where
       cell-in k (s .args .below + s .args .s .tmax - 33) (omega (arith, k .rows-are)) (s .args .above - s .args .below - 1)
       (omega (arith, allowed-tmax _ _ (in-set (c .before .before)), k .greatest))
 
-  reads : getD (s .args .table .now) at 0 ≡ cellFrom (s .args .s .«set») (s .args .table .now) (s .args .below) (s .args .above - s .args .below)
+  reads : getD (s .args .table .now) at 0 ≡ cellFrom (s .args .s .members) (s .args .table .now) (s .args .below) (s .args .above - s .args .below)
   reads = cell-read _ _ _ _ _ _ (s .pre .0 .greatest) refl
 
 returns : tie.Need-returns

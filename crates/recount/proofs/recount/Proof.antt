@@ -19,15 +19,15 @@ module _ (c : tie.After-known-told3) where
   s = c .before .before .before .before .before .before .before .before
 
   -- the table is in order
-  fine : none ≡ first (tableChecks (s .args .height) (s .args .«set») (s .args .tally .columns) (s .args .table .now))
+  fine : none ≡ first (tableChecks (s .args .height) (s .args .members) (s .args .tally .columns) (s .args .table .now))
   fine =
       let t = c .before .before .before .before in
       ap saidBy (sym (t .enum-told .given .1)) ∙ t .before .before .check-table .ensures
 
   -- what the settings that were made tell
-  made : Passed (Good (c .before .made2 .given .0 .0)) (s .args .height) (s .args .«set»)
+  made : Passed (Good (c .before .made2 .given .0 .0)) (s .args .height) (s .args .members)
   made =
-      subst (λ (m : Made). Passed m (s .args .height) (s .args .«set»)) (c .before .made2 .given .1) (c .before .before .before .new .ensures .1)
+      subst (λ (m : Made). Passed m (s .args .height) (s .args .members)) (c .before .made2 .given .1) (c .before .before .before .new .ensures .1)
 
 returns : tie.Need-returns
 returns c =

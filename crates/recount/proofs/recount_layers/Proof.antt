@@ -24,8 +24,8 @@ abbrev Inv-loop : tie.InvT-loop
 Inv-loop table s bound sequence n below₀ sum₀ k₀ below sum k =
     (k ≤ n) × (k < below) × (32 < below + s .tmax) × (below < s .height + s .tmax + 32) × (sum ≤ k * 4_294_967_296)
     × (below ≡ datum (sequence ! k))
-    × ((j : ℕ) → j < k → layerOut (s .height) (s .«set») table bound sequence j ≡ false)
-    × (sum ≡ errorUnder (ofTable (s .height) (s .«set») table) sequence k)
+    × ((j : ℕ) → j < k → layerOut (s .height) (s .members) table bound sequence j ≡ false)
+    × (sum ≡ errorUnder (ofTable (s .height) (s .members) table) sequence k)
 
 abbrev μ-loop : tie.MeasureT-loop
 μ-loop table s bound sequence n below₀ sum₀ k₀ below sum k = n - k
@@ -40,12 +40,12 @@ module _ (c : tie.After-look Inv-loop μ-loop) where
 
   -- what a look that came to `layer` tells
   told-of : (layer : Layer) → c .look .result ≡ layer
-      → Looked layer (s .args .s .height) (s .args .s .«set») (s .args .table .now) (s .args .bound) (l .loop .below) (c .before .datum-at2 .result)
+      → Looked layer (s .args .s .height) (s .args .s .members) (s .args .table .now) (s .args .bound) (l .loop .below) (c .before .datum-at2 .result)
   told-of layer e =
-      subst (λ (r : Layer). Looked r (s .args .s .height) (s .args .s .«set») (s .args .table .now) (s .args .bound) (l .loop .below) (c .before .datum-at2 .result)) e (c .look .ensures)
+      subst (λ (r : Layer). Looked r (s .args .s .height) (s .args .s .members) (s .args .table .now) (s .args .bound) (l .loop .below) (c .before .datum-at2 .result)) e (c .look .ensures)
 
-  between : layerOut (s .args .s .height) (s .args .s .«set») (s .args .table .now) (s .args .bound) (s .args .sequence .now) (l .loop .k)
-      ≡ outBetween (s .args .s .height) (s .args .s .«set») (s .args .table .now) (s .args .bound) (l .loop .below) (c .before .datum-at2 .result)
+  between : layerOut (s .args .s .height) (s .args .s .members) (s .args .table .now) (s .args .bound) (s .args .sequence .now) (l .loop .k)
+      ≡ outBetween (s .args .s .height) (s .args .s .members) (s .args .table .now) (s .args .bound) (l .loop .below) (c .before .datum-at2 .result)
   between = layer-between (s .pre .0) _ _ _ _ _ _ (l .loop .inv .5) (c .before .datum-at2 .ensures) (omega arith)
 
 returns : tie.Need-returns Inv-loop μ-loop

@@ -29,7 +29,7 @@ loop-again : tie.Need-loop-again Inv-loop μ-loop
 loop-again c =
     let l = c .before .before .before .before .before .loop in
     let a = c .before .before .before .before .before .before .before .before .before .args in
-    let line = sheetLine (a .height) (a .«set») (now (a .errors)) (now (a .thicknesses)) blankSequence in (
+    let line = sheetLine (a .height) (a .members) (now (a .errors)) (now (a .thicknesses)) blankSequence in (
       search needs,
       omega arith,
       ap (put (countLines line (l .n + 1) (a .counts - (l .n + 1)))) (c .before .before .put-count .ensures)

@@ -13,7 +13,7 @@ use Rattle.shagorent.proofs.shagorent_picture.Tie as tie
 returns : tie.Need-returns
 returns c =
     let a = c .before .before .before .args in
-    c .picture-reply .ensures ∙ ap pictureReply (c .before .picture .ensures) ∙ ap (λ (z : ℤ). pictureReply (pictureAnswer (a .height) (a .«set») (now (a .column)) z (a .thickness))) (toZ-ofZ w32 (a .start) (c .before .before .before .fits .start))
+    c .picture-reply .ensures ∙ ap pictureReply (c .before .picture .ensures) ∙ ap (λ (z : ℤ). pictureReply (pictureAnswer (a .height) (a .members) (now (a .column)) z (a .thickness))) (toZ-ofZ w32 (a .start) (c .before .before .before .fits .start))
 
 pub shagorent-picture-spec : {M : Type 1} → statement M
 shagorent-picture-spec = tie.close (tie.spec (λ c κs. search needs) (λ c κs. search needs) returns)

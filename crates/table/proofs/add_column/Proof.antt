@@ -28,8 +28,8 @@ module _ (N T c : ℕ) (table bs : List ℕ) where
   -- the answer and the table of settings that were made
   abbrev Adds : Settings → Tabled → List ℕ → Type 0
   Adds s r now =
-      (toldTable r ≡ decided (addRest (s .height) (s .«set») c table bs) (tallyOf (c + 1)))
-      × (now ≡ after (decided (addRest (s .height) (s .«set») c table bs) (tallyOf (c + 1))) (added (s .height) (s .«set») table bs) table)
+      (toldTable r ≡ decided (addRest (s .height) (s .members) c table bs) (tallyOf (c + 1)))
+      × (now ≡ after (decided (addRest (s .height) (s .members) c table bs) (tallyOf (c + 1))) (added (s .height) (s .members) table bs) table)
 
   good : (s : Settings) (r : Tabled) (now : List ℕ) → Passed (Good s) N T → Adds s r now → (toldTable r ≡ addAnswer N T c table bs) × (now ≡ addTable N T c table bs)
   unfolding addTable addAnswer
@@ -38,10 +38,10 @@ module _ (N T c : ℕ) (table bs : List ℕ) where
       let e = settings-good N T (addRest N T c table bs) (tallyOf (c + 1)) (p .0) in
       (b .0 ∙ e, b .1 ∙ ap (λ (t : Told Tally). after t (added N T table bs) table) e)
 
-made : (c : tie.After-known-told2) → Passed (Good (c .before .made2 .given .0 .0)) (c .before .before .before .before .before .before .args .height) (c .before .before .before .before .before .before .args .«set»)
+made : (c : tie.After-known-told2) → Passed (Good (c .before .made2 .given .0 .0)) (c .before .before .before .before .before .before .args .height) (c .before .before .before .before .before .before .args .members)
 made c =
     let s = c .before .before .before .before .before .before in
-    subst (λ (m : Made). Passed m (s .args .height) (s .args .«set»)) (c .before .made2 .given .1) (c .before .before .before .new .ensures .1)
+    subst (λ (m : Made). Passed m (s .args .height) (s .args .members)) (c .before .made2 .given .1) (c .before .before .before .new .ensures .1)
 
 pub add-column-spec : {M : Type 1} → statement M
 add-column-spec =

@@ -12,7 +12,7 @@ use Rattle.table.proofs.add_row.Tie as tie
 
 abbrev Inv-loop : tie.InvT-loop
 Inv-loop table₀ column s row base j₀ table j =
-    (j ≤ s .tmax) × Span 0 (row * s .tmax) j (λ k x. x + addend (s .«set») column (row * s .tmax + k)) table₀ table
+    (j ≤ s .tmax) × Span 0 (row * s .tmax) j (λ k x. x + addend (s .members) column (row * s .tmax + k)) table₀ table
 
 abbrev μ-loop : tie.MeasureT-loop
 μ-loop table₀ column s row base j₀ table j = s .tmax - j

@@ -12,7 +12,7 @@ use Rattle.table.proofs.add_rows.Tie as tie
 
 abbrev Inv-loop : tie.InvT-loop
 Inv-loop table₀ column s row₀ table row =
-    (row ≤ s .rows) × Span 0 0 (row * s .tmax) (λ i x. x + addend (s .«set») column i) table₀ table
+    (row ≤ s .rows) × Span 0 0 (row * s .tmax) (λ i x. x + addend (s .members) column i) table₀ table
 
 abbrev μ-loop : tie.MeasureT-loop
 μ-loop table₀ column s row₀ table row = s .rows - row
@@ -22,7 +22,7 @@ S l = l .before .before .before
 
 -- the rows to come are as they were, so that what is added to them fits
 fits : (l : tie.At-loop Inv-loop μ-loop) → l .loop .row < S l .args .s .rows → (j : ℕ) → j < S l .args .s .tmax
-    → getD (l .loop .table) (l .loop .row * S l .args .s .tmax + j) 0 + addend (S l .args .s .«set») (S l .args .column .now) (l .loop .row * S l .args .s .tmax + j) < 4294967296
+    → getD (l .loop .table) (l .loop .row * S l .args .s .tmax + j) 0 + addend (S l .args .s .members) (S l .args .column .now) (l .loop .row * S l .args .s .tmax + j) < 4294967296
 fits l h j u =
     let i = cell-in (S l .pre .0) (l .loop .row) h j u in
     omega (arith, l .loop .inv .1 .above (l .loop .row * S l .args .s .tmax + j) (omega arith), S l .pre .1 .1 (l .loop .row * S l .args .s .tmax + j) i)

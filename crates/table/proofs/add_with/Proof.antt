@@ -22,8 +22,8 @@ use Rattle.table.proofs.add_with.Statement.{statement}
 use Rattle.table.proofs.add_with.Tie as tie
 
 -- every cell is rewritten
-whole : (s : Settings) → Sound s → (table now bs : List ℕ) → Span 0 0 (s .cells) (λ i x. x + addend (s .«set») bs i) table now
-    → now ≡ added (s .height) (s .«set») table bs
+whole : (s : Settings) → Sound s → (table now bs : List ℕ) → Span 0 0 (s .cells) (λ i x. x + addend (s .members) bs i) table now
+    → now ≡ added (s .height) (s .members) table bs
 unfolding added
 whole s k table now bs w = let e = cells-sound k in span-is (s .cells) _ w (omega arith) (omega arith)
 
@@ -56,13 +56,13 @@ add-rows-requires c κs =
     let k = s d .pre in
     let e = cells-sound k in
     let f = c .before .before .before .first-overfull .ensures in
-    let small : (i : ℕ) → addend (a .s .«set») (a .column .now) i ≤ 32 =
-    (λ i. let x = addend-le (a .s .«set») i (a .column .now) in let y = thickness-le (a .s .«set») i (omega (arith, k .greatest, k .thin, k .order)) in omega (arith, k .greatest, k .thick)) in (
+    let small : (i : ℕ) → addend (a .s .members) (a .column .now) i ≤ 32 =
+    (λ i. let x = addend-le (a .s .members) i (a .column .now) in let y = thickness-le (a .s .members) i (omega (arith, k .greatest, k .thin, k .order)) in omega (arith, k .greatest, k .thick)) in (
       k,
       (
         omega arith,
         λ i l.
-            overfull-fits (a .s .height) (a .s .«set») (a .columns) (a .table .now) (a .column .now) (omega arith) (omega (arith, k .greatest, k .thin, k .order)) (omega (arith, k .greatest, k .thick)) (omega arith) small i (omega arith) (omega (arith, d .before .before .before .before .before .before .before .before .slice-known .given i)),
+            overfull-fits (a .s .height) (a .s .members) (a .columns) (a .table .now) (a .column .now) (omega arith) (omega (arith, k .greatest, k .thin, k .order)) (omega (arith, k .greatest, k .thick)) (omega arith) small i (omega arith) (omega (arith, d .before .before .before .before .before .before .before .before .slice-known .given i)),
       ),
     )
 

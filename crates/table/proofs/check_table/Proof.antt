@@ -23,14 +23,14 @@ module _ (N T c : ℕ) (table : List ℕ) where
   unfolding tableChecks
   bad reason e = settings-said N T (tableRest N T c table) reason e
 
-  good : (s : Settings) → Passed (Good s) N T → first (tableRest (s .height) (s .«set») c table) ≡ first (tableChecks N T c table)
+  good : (s : Settings) → Passed (Good s) N T → first (tableRest (s .height) (s .members) c table) ≡ first (tableChecks N T c table)
   unfolding tableChecks
-  good s p = ap (λ (s : Settings). first (tableRest (s .height) (s .«set») c table)) (p .1) ∙ settings-pass N T (tableRest N T c table) (p .0)
+  good s p = ap (λ (s : Settings). first (tableRest (s .height) (s .members) c table)) (p .1) ∙ settings-pass N T (tableRest N T c table) (p .0)
 
-made : (c : tie.After-known-told2) → Passed (Good (c .before .made2 .given .0 .0)) (c .before .before .before .before .before .args .height) (c .before .before .before .before .before .args .«set»)
+made : (c : tie.After-known-told2) → Passed (Good (c .before .made2 .given .0 .0)) (c .before .before .before .before .before .args .height) (c .before .before .before .before .before .args .members)
 made c =
     let s = c .before .before .before .before .before in
-    subst (λ (m : Made). Passed m (s .args .height) (s .args .«set»)) (c .before .made2 .given .1) (c .before .before .before .new .ensures .1)
+    subst (λ (m : Made). Passed m (s .args .height) (s .args .members)) (c .before .made2 .given .1) (c .before .before .before .new .ensures .1)
 
 pub check-table-spec : {M : Type 1} → statement M
 check-table-spec =

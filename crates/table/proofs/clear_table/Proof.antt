@@ -40,10 +40,10 @@ module _ (N T : ℕ) (table : List ℕ) where
       span-is (s .cells) (cells N T) w (omega arith) (omega arith)
       ∙ after-done (clearAnswer N T table) (tallyOf 0) (cleared N T table) table (clear-done N T 0 table (p .0) (omega arith))
 
-made : (c : tie.After-known-told2) → Passed (Good (c .before .made2 .given .0 .0)) (c .before .before .before .before .before .args .height) (c .before .before .before .before .before .args .«set»)
+made : (c : tie.After-known-told2) → Passed (Good (c .before .made2 .given .0 .0)) (c .before .before .before .before .before .args .height) (c .before .before .before .before .before .args .members)
 made c =
     let s = c .before .before .before .before .before in
-    subst (λ (m : Made). Passed m (s .args .height) (s .args .«set»)) (c .before .made2 .given .1) (c .before .before .before .new .ensures .1)
+    subst (λ (m : Made). Passed m (s .args .height) (s .args .members)) (c .before .made2 .given .1) (c .before .before .before .new .ensures .1)
 
 returns : tie.Need-returns
 returns c =

@@ -15,7 +15,7 @@ use Rattle.table.proofs.first_not_part.Tie as tie
 
 abbrev Inv-loop : tie.InvT-loop
 Inv-loop table other s columns limits row₀ row =
-    (row ≤ s .rows) × Limits (s .«set») columns limits × ((k : ℕ) → k < row * s .tmax → notPart (s .«set») columns table other k ≡ false)
+    (row ≤ s .rows) × Limits (s .members) columns limits × ((k : ℕ) → k < row * s .tmax → notPart (s .members) columns table other k ≡ false)
 
 abbrev μ-loop : tie.MeasureT-loop
 μ-loop table other s columns limits row₀ row = s .rows - row

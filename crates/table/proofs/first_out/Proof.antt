@@ -16,7 +16,7 @@ use Rattle.table.proofs.first_out.Tie as tie
 
 abbrev Inv-loop : tie.InvT-loop
 Inv-loop table s columns limits row₀ row =
-    (row ≤ s .rows) × Limits (s .«set») columns limits × ((k : ℕ) → k < row * s .tmax → outOfBounds (s .«set») columns table k ≡ false)
+    (row ≤ s .rows) × Limits (s .members) columns limits × ((k : ℕ) → k < row * s .tmax → outOfBounds (s .members) columns table k ≡ false)
 
 abbrev μ-loop : tie.MeasureT-loop
 μ-loop table s columns limits row₀ row = s .rows - row

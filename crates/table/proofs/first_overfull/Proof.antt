@@ -14,7 +14,7 @@ use Rattle.table.proofs.first_overfull.Tie as tie
 
 abbrev Inv-loop : tie.InvT-loop
 Inv-loop table column s columns limits row₀ row =
-    (row ≤ s .rows) × Limits (s .«set») columns limits × ((k : ℕ) → k < row * s .tmax → overfull (s .«set») columns table column k ≡ false)
+    (row ≤ s .rows) × Limits (s .members) columns limits × ((k : ℕ) → k < row * s .tmax → overfull (s .members) columns table column k ≡ false)
 
 abbrev μ-loop : tie.MeasureT-loop
 μ-loop table column s columns limits row₀ row = s .rows - row

@@ -11,7 +11,7 @@ use Rattle.table.proofs.heaped_row.Statement.{statement}
 use Rattle.table.proofs.heaped_row.Tie as tie
 
 abbrev Inv-loop : tie.InvT-loop
-Inv-loop table column limits s row j₀ j = (j ≤ s .tmax) × ((k : ℕ) → k < j → heaped (s .«set») limits table column (row * s .tmax) k ≡ false)
+Inv-loop table column limits s row j₀ j = (j ≤ s .tmax) × ((k : ℕ) → k < j → heaped (s .members) limits table column (row * s .tmax) k ≡ false)
 
 abbrev μ-loop : tie.MeasureT-loop
 μ-loop table column limits s row j₀ j = s .tmax - j

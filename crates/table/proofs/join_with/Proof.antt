@@ -25,7 +25,7 @@ use Rattle.table.proofs.join_with.Statement.{statement}
 use Rattle.table.proofs.join_with.Tie as tie
 
 whole : (s : Settings) → Sound s → (table now other : List ℕ) → Span 0 0 (s .cells) (λ i x. x + getD other i 0) table now
-    → now ≡ joined (s .height) (s .«set») table other
+    → now ≡ joined (s .height) (s .members) table other
 unfolding joined
 whole s k table now other w = let e = cells-sound k in span-is (s .cells) _ w (omega arith) (omega arith)
 
@@ -37,15 +37,15 @@ module _ (c : tie.After-check-pair) where
   abbrev s : tie.Start
   s = c .before .before .before .before .before .before .before .before .before
 
-  said : saidBy (c .check-pair .result) ≡ first (pairOut (s .args .s .height) (s .args .s .«set») (s .args .columns) (s .args .table .now) (s .args .other-columns) (s .args .other .now))
+  said : saidBy (c .check-pair .result) ≡ first (pairOut (s .args .s .height) (s .args .s .members) (s .args .columns) (s .args .table .now) (s .args .other-columns) (s .args .other .now))
   said = c .check-pair .ensures
 
   pairs : (x : Tally) → tell x (saidBy (c .check-pair .result))
-      ≡ decided (joinRest (s .args .s .height) (s .args .s .«set») (s .args .columns) (s .args .table .now) (s .args .other-columns) (s .args .other .now)) x
+      ≡ decided (joinRest (s .args .s .height) (s .args .s .members) (s .args .columns) (s .args .table .now) (s .args .other-columns) (s .args .other .now)) x
   pairs x =
       let e = cells-sound (s .pre) in
       ap (tell x) said
-      ∙ join-pair (s .args .s .height) (s .args .s .«set») (s .args .columns) (s .args .table .now) (s .args .other-columns) (s .args .other .now) x (omega arith) (omega arith) (omega arith) (omega arith) (omega arith)
+      ∙ join-pair (s .args .s .height) (s .args .s .members) (s .args .columns) (s .args .table .now) (s .args .other-columns) (s .args .other .now) x (omega arith) (omega arith) (omega arith) (omega arith) (omega arith)
 
 returns-6 : tie.Need-returns-6
 returns-6 c =

@@ -40,5 +40,5 @@ limits-of-spec =
     (λ c. search needs)
     (λ c.
     let l = c .before .before .loop in
-    (omega arith, simp length-set (l .inv .1), more (c .before .before .before .args .«set») (c .before .before .before .args .columns) _ (l .j) (l .limits) (omega arith) (c .limit-of .ensures) (l .inv .2)))
+    (omega arith, simp length-set (l .inv .1), more (c .before .before .before .args .members) (c .before .before .before .args .columns) _ (l .j) (l .limits) (omega arith) (c .limit-of .ensures) (l .inv .2)))
     (λ c. record { are = λ j l. c .before .loop .inv .2 j (omega arith) }))

@@ -11,15 +11,15 @@ use Rattle.table.proofs.pair_of.Statement.{statement}
 use Rattle.table.proofs.pair_of.Tie as tie
 
 -- what the settings that were made tell, the first and the second
-made : (c : tie.After-known-told2) → Passed (Good (c .before .made2 .given .0 .0)) (c .before .before .before .before .args .height) (c .before .before .before .before .args .«set»)
+made : (c : tie.After-known-told2) → Passed (Good (c .before .made2 .given .0 .0)) (c .before .before .before .before .args .height) (c .before .before .before .before .args .members)
 made c =
     let s = c .before .before .before .before in
-    subst (λ (m : Made). Passed m (s .args .height) (s .args .«set»)) (c .before .made2 .given .1) (c .before .before .before .new .ensures .1)
+    subst (λ (m : Made). Passed m (s .args .height) (s .args .members)) (c .before .made2 .given .1) (c .before .before .before .new .ensures .1)
 
-other : (c : tie.After-enum-told) → first (settingsChecks (c .before .before .before .before .before .before .before .args .other-height) (c .before .before .before .before .before .before .before .args .other-set)) ≡ none
+other : (c : tie.After-enum-told) → first (settingsChecks (c .before .before .before .before .before .before .before .args .other-height) (c .before .before .before .before .before .before .before .args .other-members)) ≡ none
 other c =
     let s = c .before .before .before .before .before .before .before in
-    subst (λ (m : Made). Passed m (s .args .other-height) (s .args .other-set)) (c .enum-told .given .1) (c .before .before .new2 .ensures .1) .0
+    subst (λ (m : Made). Passed m (s .args .other-height) (s .args .other-members)) (c .enum-told .given .1) (c .before .before .new2 .ensures .1) .0
 
 pub pair-of-spec : {M : Type 1} → statement M
 pair-of-spec =

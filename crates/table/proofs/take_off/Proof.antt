@@ -27,8 +27,8 @@ module _ (N T c : ℕ) (table : List ℕ) (N′ T′ c′ : ℕ) (other : List �
   -- the answer and the table of the settings that both have
   abbrev Takes : Settings → Tabled → List ℕ → Type 0
   Takes s r now =
-      (toldTable r ≡ decided (takeRest (s .height) (s .«set») c table c′ other) (tallyOf (c - c′)))
-      × (now ≡ after (decided (takeRest (s .height) (s .«set») c table c′ other) (tallyOf (c - c′))) (taken (s .height) (s .«set») table other) table)
+      (toldTable r ≡ decided (takeRest (s .height) (s .members) c table c′ other) (tallyOf (c - c′)))
+      × (now ≡ after (decided (takeRest (s .height) (s .members) c table c′ other) (tallyOf (c - c′))) (taken (s .height) (s .members) table other) table)
 
   good : (s : Settings) (r : Tabled) (now : List ℕ) → Paired (Good s) N T N′ T′ → Takes s r now
       → (toldTable r ≡ takeAnswer N T c table N′ T′ c′ other) × (now ≡ takeTable N T c table N′ T′ c′ other)
@@ -39,16 +39,16 @@ module _ (N T c : ℕ) (table : List ℕ) (N′ T′ c′ : ℕ) (other : List �
       (b .0 ∙ e, b .1 ∙ ap (λ (t : Told Tally). after t (taken N T table other) table) e)
 
 made : (c : tie.After-known-told2)
-    → Paired (Good (c .before .made2 .given .0 .0)) (c .before .before .before .before .before .before .args .height) (c .before .before .before .before .before .before .args .«set») (c .before .before .before .before .before .before .args .other-height) (c .before .before .before .before .before .before .args .other-set)
+    → Paired (Good (c .before .made2 .given .0 .0)) (c .before .before .before .before .before .before .args .height) (c .before .before .before .before .before .before .args .members) (c .before .before .before .before .before .before .args .other-height) (c .before .before .before .before .before .before .args .other-members)
 made c =
     let s = c .before .before .before .before .before .before in
-    subst (λ (m : Made). Paired m (s .args .height) (s .args .«set») (s .args .other-height) (s .args .other-set)) (c .before .made2 .given .1) (c .before .before .before .pair-of .ensures)
+    subst (λ (m : Made). Paired m (s .args .height) (s .args .members) (s .args .other-height) (s .args .other-members)) (c .before .made2 .given .1) (c .before .before .before .pair-of .ensures)
 
 returns : tie.Need-returns
 returns c =
     let s = c .before .before .before .before .before .before .before in
     bad _ _ _ _ _ _ _ _ _ (c .before .before .made .given .0 .0) (c .refused .ensures)
-    (subst (λ (m : Made). Paired m (s .args .height) (s .args .«set») (s .args .other-height) (s .args .other-set)) (c .before .before .made .given .1) (c .before .before .before .before .pair-of .ensures))
+    (subst (λ (m : Made). Paired m (s .args .height) (s .args .members) (s .args .other-height) (s .args .other-members)) (c .before .before .made .given .1) (c .before .before .before .before .pair-of .ensures))
 
 pub take-off-spec : {M : Type 1} → statement M
 take-off-spec =

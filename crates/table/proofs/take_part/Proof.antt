@@ -19,7 +19,7 @@ use Rattle.table.proofs.take_part.Statement.{statement}
 use Rattle.table.proofs.take_part.Tie as tie
 
 whole : (s : Settings) → Sound s → (table now other : List ℕ) → Span 0 0 (s .cells) (λ i x. x - getD other i 0) table now
-    → now ≡ taken (s .height) (s .«set») table other
+    → now ≡ taken (s .height) (s .members) table other
 unfolding taken
 whole s k table now other w = let e = cells-sound k in span-is (s .cells) _ w (omega arith) (omega arith)
 
@@ -30,7 +30,7 @@ take-cells-requires c κs =
     let e = cells-sound (s .pre .0) in
     let f = c .before .before .first-not-part .ensures in (
       (omega arith, omega arith),
-      λ i l. part-le (a .s .height) (a .s .«set») (a .columns - a .other-columns) (a .table .now) (a .other .now) (omega arith) i (omega arith),
+      λ i l. part-le (a .s .height) (a .s .members) (a .columns - a .other-columns) (a .table .now) (a .other .now) (omega arith) i (omega arith),
     )
 
 pub take-part-spec : {M : Type 1} → statement M

@@ -26,19 +26,19 @@ module _ (c : tie.After-check-pair) where
   s = c .before .before .before .before .before .before .before .before .before .before
 
   abbrev pair : List (Check Numbered)
-  pair = pairOut (s .args .s .height) (s .args .s .«set») (s .args .columns) (s .args .table .now) (s .args .other-columns) (s .args .other .now)
+  pair = pairOut (s .args .s .height) (s .args .s .members) (s .args .columns) (s .args .table .now) (s .args .other-columns) (s .args .other .now)
 
   abbrev part : List (Check Numbered)
-  part = partChecks (s .args .s .height) (s .args .s .«set») (s .args .columns) (s .args .table .now) (s .args .other-columns) (s .args .other .now)
+  part = partChecks (s .args .s .height) (s .args .s .members) (s .args .columns) (s .args .table .now) (s .args .other-columns) (s .args .other .now)
 
   fine : c .check-pair .result ≡ Passed → none ≡ first pair
   fine e = ap saidBy (sym e) ∙ c .check-pair .ensures
 
   pairs : (x : Tally) → decided (pair ++ part) x
-      ≡ decided (takeRest (s .args .s .height) (s .args .s .«set») (s .args .columns) (s .args .table .now) (s .args .other-columns) (s .args .other .now)) x
+      ≡ decided (takeRest (s .args .s .height) (s .args .s .members) (s .args .columns) (s .args .table .now) (s .args .other-columns) (s .args .other .now)) x
   pairs x =
       let e = cells-sound (s .pre) in
-      take-pair (s .args .s .height) (s .args .s .«set») (s .args .columns) (s .args .table .now) (s .args .other-columns) (s .args .other .now) x (omega arith) (omega arith) (omega arith) (omega arith)
+      take-pair (s .args .s .height) (s .args .s .members) (s .args .columns) (s .args .table .now) (s .args .other-columns) (s .args .other .now) x (omega arith) (omega arith) (omega arith) (omega arith)
 
 returns-5 : tie.Need-returns-5
 returns-5 c =
@@ -60,7 +60,7 @@ returns-6 c =
     let x = tallyOf (s d .args .columns - s d .args .other-columns) in
     let e = sym (decided-passed (pair d) (part d) x (sym (fine d (c .before .before .before .before .enum-told .given .1)))) ∙ pairs d x in
     let q = c .before .before .take-part .ensures in
-    (q .0 ∙ e, q .1 ∙ ap (λ (t : Told Tally). after t (taken (s d .args .s .height) (s d .args .s .«set») (s d .args .table .now) (s d .args .other .now)) (s d .args .table .now)) e)
+    (q .0 ∙ e, q .1 ∙ ap (λ (t : Told Tally). after t (taken (s d .args .s .height) (s d .args .s .members) (s d .args .table .now) (s d .args .other .now)) (s d .args .table .now)) e)
 
 pub take-with-spec : {M : Type 1} → statement M
 take-with-spec =

@@ -29,7 +29,7 @@ loop-again c =
     (omega arith, l .loop .inv .1 ∙ greatest-miss _ (l .loop .k) (omega arith) (sym (c .before .is-allowed .ensures) ∙ c .if1 .left))
 
 returns-2 : tie.Need-returns-2 Inv-loop μ-loop
-returns-2 c = let l = c .before in omega (arith, l .loop .inv .1, greatest-le (l .before .args .«set») (l .loop .k))
+returns-2 c = let l = c .before in omega (arith, l .loop .inv .1, greatest-le (l .before .args .members) (l .loop .k))
 
 pub greatest-of-spec : {M : Type 1} → statement M
 greatest-of-spec =

@@ -30,7 +30,7 @@ loop-again c =
       omega arith,
       l .loop .inv .1
           ∙ least-miss _ (l .loop .k) (32 - l .loop .k) (omega arith) (sym (c .before .is-allowed .ensures) ∙ c .if1 .left)
-          ∙ ap (leastAbove (l .before .args .«set») (l .loop .k + 1)) e,
+          ∙ ap (leastAbove (l .before .args .members) (l .loop .k + 1)) e,
     )
 
 returns-2 : tie.Need-returns-2 Inv-loop μ-loop
@@ -38,7 +38,7 @@ unfolding leastAbove
 returns-2 c =
     let l = c .before in
     let e : 32 - l .loop .k ≡ 0 = omega arith in
-    sym (l .loop .inv .1 ∙ ap (leastAbove (l .before .args .«set») (l .loop .k)) e)
+    sym (l .loop .inv .1 ∙ ap (leastAbove (l .before .args .members) (l .loop .k)) e)
 
 pub least-of-spec : {M : Type 1} → statement M
 least-of-spec =

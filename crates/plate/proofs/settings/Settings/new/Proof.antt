@@ -19,7 +19,7 @@ module _ (c : tie.After-greatest-of) where
   N = c .before .before .before .before .before .args .height
 
   abbrev T : ℕ
-  T = c .before .before .before .before .before .args .«set»
+  T = c .before .before .before .before .before .args .members
 
   abbrev lo : ℕ
   lo = c .before .least-of .result
