@@ -35,6 +35,9 @@ module _ (head : Head) where
   unfolding isFull
   not-full e = leb-false mostColumns (head .columns) e
 
+  pub full-over : isFull head ≡ false → isOver head ≡ false
+  full-over e = few-not-over (let l = not-full e in omega arith)
+
   pub few-not-full : head .columns < mostColumns → isFull head ≡ false
   unfolding isFull
   few-not-full l = lt-leb mostColumns (head .columns) l

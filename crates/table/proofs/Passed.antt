@@ -38,7 +38,7 @@ module _ (held : Held) where
   -- ---- passed: what is known then
 
   module _ {s : Settings} (k : SettingsFor (held .head) s) where
-    thickness-small : (i : ℕ) → thicknessAt (held .head .members) i ≤ 32
+    pub thickness-small : (i : ℕ) → thicknessAt (held .head .members) i ≤ 32
     thickness-small i =
         let t = thickness-le (held .head .members) i (omega (arith, greatest-for k, k .sound .thin, k .sound .order)) in
         omega (arith, greatest-for k, k .sound .thick)

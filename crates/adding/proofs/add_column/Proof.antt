@@ -1,47 +1,65 @@
--- `add_column` meets its contract: refusals 1 and 2 of the settings, and then those of `add_with`. Assumes nothing.
-use mathlib.Core.Path.{_≡_, sym, ap, _∙_, subst}
+-- `add_column` meets its contract: the refusals of `check_adding`, or every row is rewritten. Assumes nothing.
+use mathlib.Core.Path.{_≡_, sym, ap, _∙_}
 use mathlib.Core.List.{List}
-use Prim.Native.Nat.{ℕ, _+_}
+use mathlib.Core.Option.{none}
+use Prim.Native.Nat.{ℕ, _+_, _≤_}
+use native.Mathlib.Omega.{arith}
 use borrow.Author.Needs.{needs}
-use Rattle.plate.specs.Refusal.{Told, refused, decided, after}
-use Rattle.plate.specs.Settings.{Passed, settingsChecks, settingsOf, toldMade}
-use Rattle.plate.specs.declared.refusal.Reason.{Reason}
-use Rattle.plate.specs.declared.settings.Made.{Made}
-use Rattle.plate.specs.declared.settings.Made.the-variants.{Good, Bad}
+use Rattle.lists.specs.Checks.{first}
+use Rattle.lists.specs.Rewrite.{rewritten, Span}
+use Rattle.lists.proofs.Spans.{span-is}
+use Rattle.paper.specs.Layer.{Column, columnOf}
+use Rattle.plate.specs.Head.{Held, heldIn, more, cellsOf, SettingsFor}
 use Rattle.plate.specs.declared.settings.Settings.{Settings}
-use Rattle.plate.proofs.Decided.{settings-bad, settings-good}
-use Rattle.table.specs.declared.Tally.{Tally}
-use Rattle.table.specs.declared.Tabled.{Tabled}
-use Rattle.table.specs.declared.Tabled.the-variants.{Refused}
-use Rattle.table.specs.Tabled.{toldTable, tallyOf}
-use Rattle.table.specs.Calls.{addRest, addAnswer, added, addTable}
-use Rattle.table.proofs.Answers.{stop}
-use Rattle.table.proofs.add_column.Statement.{statement}
-use Rattle.table.proofs.add_column.Tie as tie
+use Rattle.plate.proofs.Calls.{judged-bad, judged-good, works}
+use Rattle.plate.proofs.Heads.{cells-for, members-for}
+use Rattle.adding.specs.Adding.{addend, added, adding, Addable}
+use Rattle.adding.proofs.Passed.{add-passed}
+use Rattle.adding.proofs.add_column.Statement.{statement}
+use Rattle.adding.proofs.add_column.Tie as tie
 
-module _ (N T c : ℕ) (table bs : List ℕ) where
-  bad : (r : Tabled) (reason : Reason) → r ≡ Refused (record { reason = reason; place = 0 }) → toldMade (Bad reason) ≡ decided (settingsChecks N T) (settingsOf N T)
-      → (toldTable r ≡ addAnswer N T c table bs) × (table ≡ addTable N T c table bs)
-  unfolding addTable addAnswer
-  bad r reason e q = stop _ r reason 0 _ table e (settings-bad N T (addRest N T c table bs) (tallyOf (c + 1)) reason q)
+-- every cell is rewritten
+whole : (held : Held) (column : Column) (s : Settings) → SettingsFor (held .head) s → Addable held column s → (now : List ℕ)
+    → Span 0 0 (s .cells) (λ i x. x + addend (s .members) column i) (held .buffer) now → now ≡ added held column
+unfolding added
+whole held column s k p now w =
+    span-is (s .cells) (cellsOf (held .head)) w (omega (arith, p .room, cells-for k)) (omega (arith, p .room, cells-for k))
+    ∙ ap (λ (T : ℕ). rewritten (λ i x. x + addend T column i) (cellsOf (held .head)) (held .buffer)) (members-for k)
 
-  -- the answer and the table of settings that were made
-  abbrev Adds : Settings → Tabled → List ℕ → Type 0
-  Adds s r now =
-      (toldTable r ≡ decided (addRest (s .height) (s .members) c table bs) (tallyOf (c + 1)))
-      × (now ≡ after (decided (addRest (s .height) (s .members) c table bs) (tallyOf (c + 1))) (added (s .height) (s .members) table bs) table)
+module _ (c : tie.After-known-told2) where
+  abbrev s : tie.Start
+  s = c .before .before .before .before .before .before .before
 
-  good : (s : Settings) (r : Tabled) (now : List ℕ) → Passed (Good s) N T → Adds s r now → (toldTable r ≡ addAnswer N T c table bs) × (now ≡ addTable N T c table bs)
-  unfolding addTable addAnswer
-  good s r now p a =
-      let b = subst (λ (s : Settings). Adds s r now) (p .1) a in
-      let e = settings-good N T (addRest N T c table bs) (tallyOf (c + 1)) (p .0) in
-      (b .0 ∙ e, b .1 ∙ ap (λ (t : Told Tally). after t (added N T table bs) table) e)
+  abbrev held : Held
+  held = heldIn (s .args .head) (s .args .table .now)
 
-made : (c : tie.After-known-told2) → Passed (Good (c .before .made2 .given .0 .0)) (c .before .before .before .before .before .before .args .height) (c .before .before .before .before .before .before .args .members)
-made c =
-    let s = c .before .before .before .before .before .before in
-    subst (λ (m : Made). Passed m (s .args .height) (s .args .members)) (c .before .made2 .given .1) (c .before .before .before .new .ensures .1)
+  abbrev column : Column
+  column = columnOf (s .args .column .now)
+
+  abbrev made : Settings
+  made = c .before .made2 .given .0 .0
+
+  passed : none ≡ first (adding held column .checks)
+  passed = judged-good (adding held column) (c .before .before .before .check-adding .ensures) _ (c .before .made2 .given .1)
+
+  for : SettingsFor (s .args .head) made
+  for = let g = c .before .before .before .check-adding .ensures .good _ (c .before .made2 .given .1) in record { is = g .0; sound = g .1 }
+
+  addable : Addable held column made
+  addable = add-passed held column for passed
+
+returns : tie.Need-returns
+unfolding adding
+returns c =
+    let s = c .before .before .before .before .before .before .before in
+    judged-bad (adding (heldIn (s .args .head) (s .args .table .now)) (columnOf (s .args .column .now))) (c .before .before .before .check-adding .ensures) _ (c .before .made .given .1)
+
+returns-2 : tie.Need-returns-2
+unfolding adding
+returns-2 c =
+    let d = c .before .before .before .before .before in
+    let e : c .with-column .result ≡ more (s d .args .head) = c .with-column .ensures ∙ rw (addable d .few) in
+    works (adding (held d) (column d)) _ _ (passed d) e (whole (held d) (column d) _ (for d) (addable d) _ (c .before .before .before .add-rows .ensures))
 
 pub add-column-spec : {M : Type 1} → statement M
 add-column-spec =
@@ -49,11 +67,10 @@ add-column-spec =
     (tie.spec
     (λ c κs. search needs)
     (λ c. search needs)
+    (λ c. search needs)
+    (λ c κs. let d = c .before in let p = addable d in let k = for d in (k .sound, (p .room, λ i l. rw (members-for k) (p .fits i l (omega (arith, d .before .before .before .before .before .before .slice-known .given i .fits))))))
     (λ c κs. search needs)
     (λ c. search needs)
-    (λ c κs. made (c .before) .2)
-    (λ c.
-    bad _ _ _ _ _ _ (c .before .before .made .given .0 .0) (c .refused .ensures)
-    (ap toldMade (sym (c .before .before .made .given .1)) ∙ c .before .before .before .before .new .ensures .0))
+    returns
     (λ c. search needs)
-    (λ c. good _ _ _ _ _ _ (c .before .before .add-with .result) _ (made (c .before .before .before .before)) (c .before .before .add-with .ensures)))
+    returns-2)
