@@ -8,10 +8,11 @@ use lib.Dec.{leb, ltb, eqb}
 use lib.ListN.{length, getD}
 use lib.IntN.{ℤ, pos, _+ℤ_}
 use lib.Signed.{leZ, _<ℤ_}
+use Rattle.paper.specs.Limits.{leastHeight, greatestHeight, mostThickness, mostBoundaries}
 
 -- T is 32 bits: bit k - 1 set means that thickness k is allowed (1 to 32)
 unfoldable pub allowed : ℕ → ℕ → Bool
-allowed T k = leb 1 k && (leb k 32 && eqb (T / 2 ^ (k - 1) % 2) 1)
+allowed T k = leb 1 k && (leb k mostThickness && eqb (T / 2 ^ (k - 1) % 2) 1)
 
 -- tmin and tmax are its least and greatest members, 0 where it has none
 
@@ -21,7 +22,7 @@ leastAbove T k zero = 0
 leastAbove T k (suc n) = cond (allowed T (suc k)) (suc k) (leastAbove T (suc k) n)
 
 unfoldable pub tmin : ℕ → ℕ
-tmin T = leastAbove T 0 32
+tmin T = leastAbove T 0 mostThickness
 
 -- the greatest of the members 1 to k
 unfoldable pub greatestTo : ℕ → ℕ → ℕ
@@ -29,18 +30,18 @@ greatestTo T zero = 0
 greatestTo T (suc k) = cond (allowed T (suc k)) (suc k) (greatestTo T k)
 
 unfoldable pub tmax : ℕ → ℕ
-tmax T = greatestTo T 32
+tmax T = greatestTo T mostThickness
 
 -- settings are a height N, at least 1 and at most 512 units, and a thickness set T of 32 bits, which is not empty
 pub record Settings (N T : ℕ) : Type 0 where
-  pub least-height : 1 ≤ N
-  pub greatest-height : N ≤ 512
-  pub bits : T < 2 ^ 32
+  pub least-height : leastHeight ≤ N
+  pub greatest-height : N ≤ greatestHeight
+  pub bits : T < 2 ^ mostThickness
   pub some-thickness : 1 ≤ tmax T
 
 -- a column is a list of 0 to 64 boundaries, an even number of them, strictly rising, each from 0 to N
 pub record Column (N : ℕ) (bs : List ℕ) : Type 0 where
-  pub few : length bs ≤ 64
+  pub few : length bs ≤ mostBoundaries
   pub even : length bs % 2 ≡ 0
   pub rising : (k : ℕ) → suc k < length bs → getD bs k 0 < getD bs (suc k) 0
   pub within : (k : ℕ) → k < length bs → getD bs k 0 ≤ N

@@ -1,3 +1,4 @@
+pub mod Layers
 pub mod Order
 pub mod Least
 pub mod Choice
