@@ -16,7 +16,7 @@ use Rattle.paper.specs.Layer.{Plate, allowed, tmin}
 use Rattle.paper.specs.Sequence.{_!_, count, thickness, Stack, Admissible, errorUnder, error, M, Chosen, None}
 use Rattle.paper.specs.Sheets.{missing, Ending}
 use Rattle.paper.proofs.Thicknesses.{and-true, tmin-least}
-use Rattle.paper.proofs.Counts.{M-most}
+use Rattle.paper.proofs.Counts.{counts-most}
 use Rattle.plate.specs.Datum.{datum, heightOf}
 use Rattle.plate.proofs.Datum.{lt-down, difference-height}
 use Rattle.sequence.specs.Sequence as working
@@ -238,7 +238,7 @@ pub count-in-range : (p : Plate) (bound : ℕ) (zs : List ℤ) → Admissible p 
 count-in-range p bound zs a =
     let w = to-working p bound (count zs) (a .layered) zs a refl in
     let b = tmin-least (p .T) (thickness zs 0) (a .stack .differences 0 (a .layered)) in
-    rw (← w .1 .layers) (M-most (p .N) (p .T) (working.count (w .0)) (b .0) (count-most (rulesOf p bound) (tmin (p .T)) thick (w .0) (w .1 .works)))
+    rw (← w .1 .layers) (counts-most (p .N) (p .T) (working.count (w .0)) (b .0) (count-most (rulesOf p bound) (tmin (p .T)) thick (w .0) (w .1 .works)))
   where
     thick : (h t : ℕ) → working.Layer (rulesOf p bound) h t → tmin (p .T) ≤ t
     thick h t l =

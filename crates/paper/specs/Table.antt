@@ -6,8 +6,8 @@ use mathlib.Core.Bool.{cond}
 use mathlib.Core.List.{List}
 use lib.ListN.{length, getD}
 use lib.IntN.{ℤ, pos, negsuc, _+ℤ_, _-ℤ_}
+use Rattle.paper.specs.Limits.{mostColumns}
 use Rattle.paper.specs.Layer.{allowed, tmax, Plate}
-pub use Rattle.paper.specs.Limits.{mostColumns}
 
 -- a cell for each start from -(tmax - 1) to N + tmax - 2 and each thickness from 1 to tmax
 unfoldable pub rows : ℕ → ℕ → ℕ

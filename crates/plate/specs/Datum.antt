@@ -11,9 +11,9 @@ datum (negsuc n) = 31 - n
 abbrev pub heightOf : ℕ → ℤ
 heightOf h = subℕ h 32
 
--- the rows of a table and of a sheet, whose lowest is the start or the height -(tmax - 1): the row of a datum height, and the height of a row
+-- the row of a start or of a height in a table or a sheet whose lowest is -(tmax - 1): from the datum height to the row, and back
 abbrev pub rowOf : ℕ → ℕ → ℕ
 rowOf tmax h = h + tmax - 33
 
 abbrev pub atRow : ℕ → ℕ → ℕ
-atRow tmax q = q + 33 - tmax
+atRow tmax row = row + 33 - tmax
