@@ -7,7 +7,6 @@ use native.Mathlib.Omega.{arith}
 use lib.Arith.{digits-lt}
 use lib.ListN.{getD}
 use Rattle.paper.specs.Layer.{tmax}
-use Rattle.paper.specs.Sequence.{M}
 use Rattle.paper.specs.Sheets.{heights, entries, entryIndex}
 use Rattle.plate.specs.Datum.{rowOf}
 use Rattle.plate.specs.Settings.{Sound}
@@ -16,16 +15,12 @@ use Rattle.sequence.specs.Sequence.{lowestEnd}
 use Rattle.sequence.specs.Sheets.{entry}
 
 module _ (s : Settings) (sound : Sound s) where
-  pub counts-is : s .counts ≡ M (s .height) (s .members)
-  unfolding M
-  counts-is = sound .counts-are ∙ rw (sound .rows-are, sound .greatest, sound .least)
-
   pub entries-is : s .entries ≡ entries (s .height) (s .members)
   unfolding entries heights
   entries-is =
       let e : s .rows + 1 ≡ s .height + 2 * tmax (s .members) - 1 =
       omega (arith, sound .rows-are, sound .greatest, sound .low, sound .thin, sound .order) in
-      sound .entries-are ∙ rw (e, counts-is)
+      sound .entries-are ∙ rw (e, sound .counts-are)
 
   pub row-in : (q m : ℕ) → q ≤ s .rows → m ≤ s .counts → entryIndex (s .counts) q m < s .entries
   row-in q m l u = rw (sound .entries-are) (digits-lt (omega arith) (omega arith))
@@ -35,4 +30,4 @@ module _ (s : Settings) (sound : Sound s) where
 
   pub entry-at : (sheet : List ℕ) (m h : ℕ) → getD sheet (entryIndex (s .counts) (rowOf (s .tmax) h) m) 0 ≡ entry (s .height) (s .members) sheet m h
   unfolding entry
-  entry-at sheet m h = rw (sound .greatest, counts-is)
+  entry-at sheet m h = rw (sound .greatest, sound .counts-are)

@@ -1,12 +1,14 @@
 // What planning, reading back and recounting share: where a cell and an entry stand, whether a layer has the shape of one, the entry that
 // stands for none, and the least of some entries.
 ghost use mathlib.Core.Path.{_≡_};
+ghost use Prim.Native.Nat.{_-_};
 ghost use lib.ListN.{getD};
 ghost use Rattle.lists.specs.Best.{value, place};
 ghost use Rattle.paper.specs.Sheets.{entryIndex, missing};
 ghost use Rattle.paper.specs.Table.{cellIndex};
 ghost use Rattle.sequence.specs.Sheets.{mark};
-ghost use Rattle.sheets.specs.Entries.{isLayer, leastFrom};
+ghost use Rattle.sheets.specs.Cells.{isLayer};
+ghost use Rattle.sheets.specs.Entries.{leastFrom};
 use plate::settings::Settings;
 use plate::settings::is_allowed;
 
@@ -19,8 +21,8 @@ pub struct Least {
     pub place: usize,
 }
 
-// The number before t, and 0 for 0.
-fn before(t: u32) -> u32
+// One less than t, and 0 for 0.
+fn one_less(t: u32) -> u32
     ensures { λ r. ⌜ r ≡ t - 1 ⌝ }
 {
     if t == 0 {
@@ -33,7 +35,7 @@ fn before(t: u32) -> u32
 pub fn cell_at(table: &[u32], tmax: u32, row: u32, t: u32) -> u32
     ensures { λ r. ⌜ r ≡ getD (now (table .entry)) (cellIndex tmax row t) 0 ⌝ }
 {
-    let at = row as usize * tmax as usize + before(t) as usize;
+    let at = row as usize * tmax as usize + one_less(t) as usize;
     if table.len() <= at {
         return 0;
     }

@@ -1,24 +1,16 @@
+-- `entry_index` meets its contract: a product of two 32-bit numbers and a third one fit 64 bits. Assumes nothing.
+use Prim.Native.Nat.{_+_, _≤_}
+use native.Mathlib.Nat.{mul-le-mul}
+use native.Mathlib.Omega.{arith}
 use borrow.Author.Needs.{needs}
 use Rattle.sheets.proofs.entry_index.Statement.{statement}
 use Rattle.sheets.proofs.entry_index.Tie as tie
-use Rattle.sheets.proofs.entry_index.Reads as reads
-use Rattle.sheets.proofs.entry_index.Lts as lts
-
--- src/lib.rt:47:21
-add-result : tie.Need-add-result
-add-result c = search needs
-
--- src/lib.rt:47:5
-mul-result : tie.Need-mul-result
-mul-result c = ?
-
--- src/lib.rt:47:5
-add-result-2 : tie.Need-add-result-2
-add-result-2 c = ?
-
--- src/lib.rt:44:1
-returns : tie.Need-returns
-returns c = search needs
 
 pub entry-index-spec : {M : Type 1} → statement M
-entry-index-spec = tie.close (tie.spec add-result mul-result add-result-2 returns)
+entry-index-spec =
+    tie.close
+    (tie.spec
+    (λ c. search needs)
+    (λ c. let r : c .args .row ≤ 4294967295 = omega arith in let m : c .args .most + 1 ≤ 4294967296 = omega arith in omega (arith, mul-le-mul r m))
+    (λ c. let r : c .args .row ≤ 4294967295 = omega arith in let m : c .args .most + 1 ≤ 4294967296 = omega arith in omega (arith, mul-le-mul r m))
+    (λ c. search needs))
