@@ -19,7 +19,7 @@ use Rattle.plate.specs.declared.settings.Settings.{Settings}
 use Rattle.sequence.specs.Sequence.{lowestEnd}
 use Rattle.sequence.specs.Sheets.{mark, unmark, entry, endOf}
 use Rattle.sequence.proofs.Marks.{Small, unmark-small, better-less, better-keep, best-small, best-more}
-use Rattle.sheets.specs.Entries.{leastFrom}
+use Rattle.sheets.specs.Entries.{leastFrom, leastEnd}
 use Rattle.sheets.proofs.Lists.{getD-within, raised, best-raised}
 use Rattle.sheets.proofs.Places.{place-in, entry-at}
 
@@ -34,6 +34,10 @@ module _ (errors : List ℕ) (wide : (i : ℕ) → getD errors i 0 < 2 ^ 64) whe
   pub entry-small : (i : ℕ) → Small (unmark (getD errors i missing))
   entry-small i = unmark-small _ (entry-le i)
 
+  pub end-small : (from apart many : ℕ) → Small (value (leastFrom errors from apart many))
+  unfolding leastFrom
+  end-small from apart many = best-small _ 0 many (λ k a b. entry-small (from + k * apart))
+
 -- one entry more, which is e
 module _ (f : ℕ → Option ℕ) (a k e : ℕ) (small : (h : ℕ) → Small (f h)) (is : e ≡ mark (f (a + k))) where
   pub entry-less : e < mark (value (bestOf f a k)) → (e ≡ mark (value (bestOf f a (k + 1)))) × (a + k ≡ place (bestOf f a (k + 1)))
@@ -46,8 +50,7 @@ module _ (f : ℕ → Option ℕ) (a k e : ℕ) (small : (h : ℕ) → Small (f 
 
 -- the end heights of a whole sheet
 module _ (s : Settings) (sound : Sound s) (errors : List ℕ) (whole : s .entries ≤ length errors) (n : ℕ) (few : n ≤ s .counts) where
-  -- the row of the lowest end height, and where its entry stands
-  abbrev pub firstEnd : ℕ
+  abbrev firstEnd : ℕ
   firstEnd = s .height + s .tmax - 1
 
   abbrev ends : ℕ → Option ℕ
@@ -62,7 +65,7 @@ module _ (s : Settings) (sound : Sound s) (errors : List ℕ) (whole : s .entrie
       let b = place-in s sound n h few (omega (arith, sound .low)) (omega arith) in
       ap unmark (ap (λ (j : ℕ). getD errors j missing) i ∙ getD-within errors _ missing 0 (omega arith) ∙ entry-at s sound errors n h)
 
-  pub end-is : endOf (s .height) (s .members) errors n ≡ raised (lowestEnd (s .height)) (leastFrom errors (entryIndex (s .counts) firstEnd n) (s .counts + 1) (s .tmax))
+  pub end-is : endOf (s .height) (s .members) errors n ≡ raised (lowestEnd (s .height)) (leastEnd errors (s .height) (s .tmax) (s .counts) n)
   unfolding endOf leastFrom
   end-is =
       best-raised ends (lowestEnd (s .height)) (tmax (s .members))

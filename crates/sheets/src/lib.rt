@@ -1,14 +1,13 @@
 // What planning, reading back and recounting share: where a cell and an entry stand, whether a layer has the shape of one, the entry that
 // stands for none, and the least of some entries.
 ghost use mathlib.Core.Path.{_≡_};
-ghost use Prim.Native.Nat.{_-_};
+ghost use Prim.Native.Nat.{_-_, _<_};
 ghost use lib.ListN.{getD};
-ghost use Rattle.lists.specs.Best.{value, place};
 ghost use Rattle.paper.specs.Sheets.{entryIndex, missing};
 ghost use Rattle.paper.specs.Table.{cellIndex};
-ghost use Rattle.sequence.specs.Sheets.{mark};
 ghost use Rattle.sheets.specs.Cells.{isLayer};
-ghost use Rattle.sheets.specs.Entries.{leastFrom};
+ghost use Rattle.sheets.specs.Entries.{leastFrom, leastEnd};
+ghost use Rattle.sheets.specs.Least.{IsLeast};
 use plate::settings::Settings;
 use plate::settings::is_allowed;
 
@@ -73,13 +72,13 @@ fn entry_at(errors: &[u64], at: usize) -> u64
 }
 
 // The least of the `many` entries at `from`, `from` + `apart` and so on.
-pub fn least_entry(errors: &[u64], from: u32, apart: u32, many: u32) -> Least
-    ensures { λ r. ⌜ (r .error ≡ mark (value (leastFrom (now (errors .entry)) from apart many)))
-        × (r .place ≡ place (leastFrom (now (errors .entry)) from apart many)) ⌝ }
+fn least_entry(errors: &[u64], from: usize, apart: u32, many: u16) -> Least
+    requires { ⌜ from < 8589934592 ⌝ }
+    ensures { λ r. ⌜ IsLeast r (leastFrom (now (errors .entry)) from apart many) ⌝ }
 {
     let mut error = NONE;
     let mut place = 0;
-    let mut at = from as usize;
+    let mut at = from;
     let mut k = 0;
     while k < many as usize {
         let e = entry_at(errors, at);
@@ -92,4 +91,19 @@ pub fn least_entry(errors: &[u64], from: u32, apart: u32, many: u32) -> Least
         }
     }
     Least { error, place }
+}
+
+// The least entry of the count n at the end heights, in a sheet of counts up to `most`.
+pub fn least_end(errors: &[u64], height: u16, tmax: u16, most: u16, n: u16) -> Least
+    ensures { λ r. ⌜ IsLeast r (leastEnd (now (errors .entry)) height tmax most n) ⌝ }
+{
+    if tmax == 0 {
+        return Least {
+            error: NONE,
+            place: 0,
+        };
+    }
+    let row = height as u32 + tmax as u32 - 1;
+    let from = entry_index(most as u32, row, n as u32);
+    least_entry(errors, from, most as u32 + 1, tmax)
 }

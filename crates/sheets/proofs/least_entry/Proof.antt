@@ -37,7 +37,7 @@ add-at : tie.Need-add-at Inv-loop μ-loop
 add-at c =
     let l = c .before .before in
     let a = l .before .before .args in
-    let k : l .loop .k + 1 ≤ 4294967295 = omega arith in
+    let k : l .loop .k + 1 ≤ 65535 = omega arith in
     let b : a .apart ≤ 4294967295 = omega arith in
     omega (arith, mul-le-mul k b, l .loop .inv .1)
 
@@ -76,7 +76,7 @@ unfolding leastFrom
 returns c =
     let l = c .before in
     let e : l .loop .k ≡ l .before .before .args .many = omega arith in
-    rw (← e) (l .loop .inv .2, l .loop .inv .3)
+    rw (← e) (record { error-is = l .loop .inv .2; place-is = l .loop .inv .3 })
 
 pub least-entry-spec : {M : Type 1} → statement M
 least-entry-spec =

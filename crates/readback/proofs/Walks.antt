@@ -3,29 +3,29 @@
 -- from the lowest up, over what the output held. Assumes nothing.
 use Prim.Native.Nat.{ℕ, zero, suc, _+_, _-_, _≤_, _<_}
 use mathlib.Core.Path.{_≡_, refl, sym, ap, _∙_}
-use mathlib.Core.Bool.{true, false, cond, _&&_}
+use mathlib.Core.Bool.{true, false, cond}
 use mathlib.Core.List.{List, [], _∷_, _++_, map}
 use mathlib.Core.Option.{none, some}
 use native.Mathlib.Nat.{le-of-lt, not-suc-le-zero, le-of-suc-le-suc}
 use native.Mathlib.Numerals.{add-one, sub-one}
 use native.Mathlib.Omega.{arith}
-use borrow.Author.Tests.{le-leb, lt-leb}
-use lib.Dec.{leb}
 use lib.IntN.{ℤ}
 use lib.ListN.{length, set, take, drop, getD}
 use lib.Seq.{set-split, drop-at, length-take-le, take-set-lt, slice-empty}
-use Rattle.paper.specs.Layer.{allowed, tmax}
+use Rattle.paper.specs.Layer.{tmax}
 use Rattle.plate.specs.Datum.{heightOf}
+use Rattle.sequence.specs.Rules.{shape}
 use Rattle.sequence.specs.Sheets.{faultUnder, boundariesUnder}
-use Rattle.plan.specs.Walking.{faultOf, notedFrom, Walked}
-use Rattle.plan.specs.declared.Walk.{Walk}
-use Rattle.plan.specs.declared.Walk.the-variants.{Fault}
+use Rattle.sequence.proofs.Layers.{start-in, start-high}
+use Rattle.readback.specs.Walking.{faultOf, notedFrom, Walked}
+use Rattle.readback.specs.declared.Walk.{Walk}
+use Rattle.readback.specs.declared.Walk.the-variants.{Fault}
 
-fault-step : (look : ℕ → ℕ → ℕ) (T k h : ℕ) → 0 < k → faultUnder look T k h
-    ≡ cond (allowed T (look k h) && leb (33 + look k h) (h + tmax T)) (faultUnder look T (k - 1) (h - look k h)) (some k)
+fault-step : (look : ℕ → ℕ → ℕ) (N T k h : ℕ) → 0 < k → faultUnder look N T k h
+    ≡ cond (shape N T (h - look k h) (look k h)) (faultUnder look N T (k - 1) (h - look k h)) (some k)
 unfolding faultUnder
-fault-step look T zero h p = absurd (omega arith)
-fault-step look T (suc k) h p = rw sub-one
+fault-step look N T zero h p = absurd (omega arith)
+fault-step look N T (suc k) h p = rw sub-one
 
 boundaries-step : (look : ℕ → ℕ → ℕ) (k h : ℕ) (above : List ℤ) → 0 < k
     → boundariesUnder look k h above ≡ boundariesUnder look (k - 1) (h - look k h) (heightOf h ∷ above)
@@ -33,29 +33,25 @@ unfolding boundariesUnder
 boundaries-step look zero h above p = absurd (omega arith)
 boundaries-step look (suc k) h above p = rw sub-one
 
-module _ (look : ℕ → ℕ → ℕ) (T k h t : ℕ) (p : 0 < k) (is : t ≡ look k h) where
-  step : faultUnder look T k h ≡ cond (allowed T t && leb (33 + t) (h + tmax T)) (faultUnder look T (k - 1) (h - t)) (some k)
-  step = fault-step look T k h p ∙ rw is
+module _ (look : ℕ → ℕ → ℕ) (N T k h t : ℕ) (p : 0 < k) (is : t ≡ look k h) where
+  step : faultUnder look N T k h ≡ cond (shape N T (h - t) t) (faultUnder look N T (k - 1) (h - t)) (some k)
+  step = fault-step look N T k h p ∙ rw is
 
-  -- a thickness not in T
-  pub fault-forbidden : allowed T t ≡ false → faultUnder look T k h ≡ some k
-  fault-forbidden e = step ∙ rw e
+  -- a layer that has not the shape of one
+  pub fault-here : shape N T (h - t) t ≡ false → faultUnder look N T k h ≡ some k
+  fault-here e = step ∙ rw e
 
-  -- a step below -(tmax - 1)
-  pub fault-below : allowed T t ≡ true → h + tmax T < 33 + t → faultUnder look T k h ≡ some k
-  fault-below e l = step ∙ rw (e, lt-leb (33 + t) (h + tmax T) l)
-
-  pub fault-on : allowed T t ≡ true → 33 + t ≤ h + tmax T → faultUnder look T k h ≡ faultUnder look T (k - 1) (h - t)
-  fault-on e l = step ∙ rw (e, le-leb (33 + t) (h + tmax T) l)
+  pub fault-on : shape N T (h - t) t ≡ true → faultUnder look N T k h ≡ faultUnder look N T (k - 1) (h - t)
+  fault-on e = step ∙ rw e
 
 -- the end of a walk
-pub fault-end : (look : ℕ → ℕ → ℕ) (T k h : ℕ) → k ≡ 0 → 32 < h → faultUnder look T k h ≡ some 0
+pub fault-end : (look : ℕ → ℕ → ℕ) (N T k h : ℕ) → k ≡ 0 → 32 < h → faultUnder look N T k h ≡ some 0
 unfolding faultUnder
-fault-end look T k h e l = rw (e, lt-leb h 32 l)
+fault-end look N T k h e l = rw (e, start-high (tmax T) h l)
 
-pub fine-end : (look : ℕ → ℕ → ℕ) (T k h : ℕ) → k ≡ 0 → h ≤ 32 → faultUnder look T k h ≡ none
+pub fine-end : (look : ℕ → ℕ → ℕ) (N T k h : ℕ) → k ≡ 0 → 32 < h + tmax T → h ≤ 32 → faultUnder look N T k h ≡ none
 unfolding faultUnder
-fine-end look T k h e l = rw (e, le-leb h 32 l)
+fine-end look N T k h e l u = rw (e, start-in (tmax T) h l u)
 
 -- a store at k, seen from k on
 stored : (l : List ℕ) (k h : ℕ) → k < length l → drop k (set l k h) ≡ h ∷ drop (k + 1) l
@@ -91,13 +87,13 @@ boundaries-over look zero h above rest = refl
 boundaries-over look (suc m) h above rest = boundaries-over look m (h - look (suc m) h) (heightOf h ∷ above) rest
 
 -- a walk with a fault has nothing to note
-pub faulted : (look : ℕ → ℕ → ℕ) (T n top layer : ℕ) (heights : List ℕ) → faultUnder look T n top ≡ some layer → Walked look T n top (Fault layer) heights
-faulted look T n top layer heights e = record { ends = sym e; notes = λ q. let z : _≡_ {A = ℕ} 0 1 = cc in absurd (omega arith) }
+pub faulted : (look : ℕ → ℕ → ℕ) (N T n top layer : ℕ) (heights : List ℕ) → faultUnder look N T n top ≡ some layer → Walked look N T n top (Fault layer) heights
+faulted look N T n top layer heights e = record { ends = sym e; notes = λ q. let z : _≡_ {A = ℕ} 0 1 = cc in absurd (omega arith) }
 
 -- what a walk without a fault noted, over what stands past it
-pub noted-under : (look : ℕ → ℕ → ℕ) (T n top : ℕ) (walk : Walk) (heights : List ℕ) (rest new : List ℤ) → Walked look T n top walk heights → faultOf walk ≡ none
+pub noted-under : (look : ℕ → ℕ → ℕ) (N T n top : ℕ) (walk : Walk) (heights : List ℕ) (rest new : List ℤ) → Walked look N T n top walk heights → faultOf walk ≡ none
     → new ≡ notedFrom 0 n heights ++ rest → new ≡ boundariesUnder look n top rest
-noted-under look T n top walk heights rest new w e is = is ∙ ap (λ (l : List ℤ). l ++ rest) (w .notes e) ∙ boundaries-over look n top [] rest
+noted-under look N T n top walk heights rest new w e is = is ∙ ap (λ (l : List ℤ). l ++ rest) (w .notes e) ∙ boundaries-over look n top [] rest
 
 -- a turn of the loop that writes the heights
 pub written : (l : List ℕ) (old : List ℤ) (k : ℕ) (z : ℤ) → k < length l → k < length old → z ≡ heightOf (getD l k 0)

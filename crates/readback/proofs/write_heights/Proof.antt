@@ -10,9 +10,9 @@ use lib.ListN.{length, take, drop, length-set}
 use mir.Syntax.{w32}
 use mir.ValLaws.{toZ-ofZ}
 use Rattle.plate.specs.Datum.{heightOf}
-use Rattle.plan.proofs.Walks.{written}
-use Rattle.plan.proofs.write_heights.Statement.{statement}
-use Rattle.plan.proofs.write_heights.Tie as tie
+use Rattle.readback.proofs.Walks.{written}
+use Rattle.readback.proofs.write_heights.Statement.{statement}
+use Rattle.readback.proofs.write_heights.Tie as tie
 
 abbrev Inv-loop : tie.InvT-loop
 Inv-loop heights n out₀ k₀ out k = (k ≤ n + 1) × (length out ≡ length out₀) × (out ≡ map heightOf (take k heights) ++ drop k out₀)
