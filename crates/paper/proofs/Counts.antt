@@ -5,8 +5,8 @@
 use Prim.Native.Nat.{ℕ, _+_, _-_, _*_, _/_, _≤_}
 use native.Mathlib.Nat.{div-le-self, le-div-iff-mul-le, mul-le-mul-left}
 use native.Mathlib.Omega.{arith}
-use Rattle.paper.specs.Limits.{greatestHeight}
-use Rattle.paper.specs.Layer.{tmin, tmax, Settings}
+use Rattle.paper.specs.Limits.{leastHeight, greatestHeight}
+use Rattle.paper.specs.Layer.{tmin, tmax}
 use Rattle.paper.specs.Table.{rows}
 use Rattle.paper.specs.Sequence.{M}
 use Rattle.paper.proofs.Thicknesses.{tmax-le, tmax-member, tmin-least}
@@ -20,7 +20,7 @@ pub counts-most : (N T n : ℕ) → 1 ≤ tmin T → n * tmin T ≤ N + 2 * tmax
 unfolding M
 counts-most N T n l u = le-div-iff-mul-le {k = tmin T} l .1 u
 
-module _ (N T : ℕ) (s : Settings N T) where
+module _ (N T : ℕ) (low : leastHeight ≤ N) (some : 1 ≤ tmax T) where
   pub counts-rows : M N T ≤ rows N T
   unfolding M rows
   counts-rows = div-le-self (N + 2 * tmax T - 2) (tmin T)
@@ -28,5 +28,5 @@ module _ (N T : ℕ) (s : Settings N T) where
   -- layers of tmax from the lowest start to that of a last layer of tmax
   pub counts-reach : (n : ℕ) → n * tmax T ≤ N + tmax T - 2 → n ≤ M N T
   counts-reach n l =
-      let b = tmin-least T (tmax T) (tmax-member T (s .some-thickness)) in
+      let b = tmin-least T (tmax T) (tmax-member T some) in
       counts-most N T n (b .0) (omega (arith, mul-le-mul-left n (b .1), l))

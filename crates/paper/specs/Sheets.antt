@@ -14,9 +14,12 @@ heights N T = N + 2 * tmax T - 1
 unfoldable pub entries : ℕ → ℕ → ℕ
 entries N T = heights N T * (M N T + 1)
 
--- the index of the entry of a row, one height's, and a count m, where `most` is the greatest count
+-- a row is one height's entries; where it starts, and the index of the entry of a row and a count m, where `most` is the greatest count
+abbrev pub rowStart : ℕ → ℕ → ℕ
+rowStart most row = row * (most + 1)
+
 abbrev pub entryIndex : ℕ → ℕ → ℕ → ℕ
-entryIndex most row m = row * (most + 1) + m
+entryIndex most row m = rowStart most row + m
 
 -- where none exists the error is 2^64 - 1
 abbrev pub missing : ℕ

@@ -4,4 +4,5 @@ pub mod Least
 pub mod Choice
 pub mod Bounds
 pub mod Marks
+pub mod BestTo
 pub mod Sheets
