@@ -1,1 +1,2 @@
 pub mod Thicknesses
+pub mod Counts

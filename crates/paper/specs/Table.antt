@@ -6,6 +6,7 @@ use mathlib.Core.Bool.{cond}
 use mathlib.Core.List.{List}
 use lib.ListN.{length, getD}
 use lib.IntN.{ℤ, pos, negsuc, _+ℤ_, _-ℤ_}
+use Rattle.paper.specs.Limits.{mostColumns}
 use Rattle.paper.specs.Layer.{allowed, tmax, Plate}
 
 -- a cell for each start from -(tmax - 1) to N + tmax - 2 and each thickness from 1 to tmax
@@ -30,10 +31,6 @@ cellOf T layerError i = cond (allowed T (thicknessAt T i)) (layerError (startAt 
 pub record Table (p : Plate) (buffer : List ℕ) : Type 0 where
   pub size : cells (p .N) (p .T) ≤ length buffer
   pub holds : (i : ℕ) → i < cells (p .N) (p .T) → getD buffer i 0 ≡ cellOf (p .T) (p .layerError) i
-
--- with a table goes its column count c, at most 1,000,000
-abbrev pub mostColumns : ℕ
-mostColumns = 1_000_000
 
 -- a cell is in bounds if it is at most c times half of t rounded down, and 0 where t isn't allowed
 unfoldable pub limit : ℕ → ℕ → ℕ → ℕ
