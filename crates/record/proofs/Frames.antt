@@ -1,6 +1,6 @@
 -- What is asked of a record before its body is looked at. Each check says its own number where it is the first that holds; where none does, the
 -- kind is allowed, the length is right, and the record ends in the input. Assumes nothing.
-use mathlib.Core.Path.{_≡_, sym}
+use mathlib.Core.Path.{_≡_, refl, sym}
 use mathlib.Core.Bool.{Bool, not, true, false}
 use mathlib.Core.List.{List}
 use mathlib.Core.Option.{none, some}
@@ -12,6 +12,7 @@ use Rattle.lists.specs.Checks.{first}
 use Rattle.lists.proofs.Checks.{first-none}
 use Rattle.record.specs.Frame.{left, lengthAt, bodyAt}
 use Rattle.record.specs.Faults.{cut, kindHere, wrongLength, bodyCut, frameChecks, Framed}
+use Rattle.record.specs.Places.{At}
 
 module _ (s : List ℕ) (at : ℕ) (allowed right : Bool) where
   -- ---- the ways out of them
@@ -51,3 +52,7 @@ module _ (s : List ℕ) (at : ℕ) (allowed right : Bool) where
 
   pub frame-passes : Framed s at allowed right → first (frameChecks s at allowed right) ≡ none
   frame-passes f = sym (is-framed (omega (arith, f .within)) (simp (f .allows)) (simp (f .fits)) (omega (arith, f .within)))
+
+  pub frame-at : At at (frameChecks s at allowed right)
+  unfolding frameChecks
+  frame-at = (refl, (refl, (refl, (refl, tt))))

@@ -11,7 +11,7 @@ ghost use Rattle.record.specs.Frame.{left, lengthAt, kindAt};
 ghost use Rattle.record.specs.Faults.{tail, frameChecks};
 use plate::refusal::Checked;
 use plate::refusal::Reason;
-use plate::refusal::Refusal;
+use plate::refusal::refusal_at;
 
 // Why a file is refused, a reason for each of its checks: fewer than 4 bytes left, kind not allowed here, wrong length for the kind, body past
 // the input, a number that disagrees with the file, bytes after the end.
@@ -101,31 +101,22 @@ pub fn kind_at(input: &[u8], at: usize) -> u16
     word_after(input, at, 1)
 }
 
-fn fault_at(reason: Reason, place: usize) -> Checked
-    ensures { λ r. ⌜ r ≡ Checked.Refused (record { reason = reason; place = place }) ⌝ }
-{
-    Checked::Refused(Refusal {
-        reason,
-        place: place as u64,
-    })
-}
-
 // What is asked of the record at a place before its body is looked at, by whether its kind is allowed there and its length is right.
 pub fn check_frame(input: &[u8], at: usize, allowed: bool, right: bool) -> Checked
     ensures { λ r. ⌜ saidBy r ≡ first (frameChecks (now (input .entry)) at allowed right) ⌝ }
 {
     let here = bytes_left(input, at);
     if here < 4 {
-        return fault_at(Fault::CUT, at);
+        return Checked::Refused(refusal_at(Fault::CUT, at));
     }
     if !allowed {
-        return fault_at(Fault::KIND_HERE, at);
+        return Checked::Refused(refusal_at(Fault::KIND_HERE, at));
     }
     if !right {
-        return fault_at(Fault::WRONG_LENGTH, at);
+        return Checked::Refused(refusal_at(Fault::WRONG_LENGTH, at));
     }
     if here - 4 < length_at(input, at) {
-        return fault_at(Fault::BODY_CUT, at);
+        return Checked::Refused(refusal_at(Fault::BODY_CUT, at));
     }
     Checked::Passed
 }
@@ -135,7 +126,7 @@ pub fn check_tail(input: &[u8], end: usize) -> Checked
     ensures { λ r. ⌜ saidBy r ≡ first (tail (now (input .entry)) end ∷ []) ⌝ }
 {
     if end < input.len() {
-        return fault_at(Fault::TAIL, end);
+        return Checked::Refused(refusal_at(Fault::TAIL, end));
     }
     Checked::Passed
 }

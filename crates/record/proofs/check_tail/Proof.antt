@@ -3,6 +3,8 @@ use borrow.Author.Needs.{needs}
 use borrow.Author.Tests.{lt-ltb, le-ltb}
 use mathlib.Core.Path.{ap, _∙_}
 use Rattle.plate.specs.Checked.{saidBy}
+use Rattle.plate.specs.declared.refusal.Refusal.{Refusal}
+use Rattle.plate.specs.declared.refusal.Checked.the-variants.{Refused}
 use Rattle.record.proofs.check_tail.Statement.{statement}
 use Rattle.record.proofs.check_tail.Tie as tie
 
@@ -11,5 +13,5 @@ check-tail-spec =
     tie.close
     (tie.spec
     (λ c κs. search needs)
-    (λ c. ap saidBy (c .fault-at .ensures) ∙ simp (lt-ltb _ _ (c .before .if1 .taken)))
+    (λ c. ap (λ (r : Refusal). saidBy (Refused r)) (c .refusal-at .ensures) ∙ simp (lt-ltb _ _ (c .before .if1 .taken)))
     (λ c. simp (le-ltb _ _ (c .if1 .left))))
