@@ -1,8 +1,3 @@
-pub mod Laws
+pub mod Reading
 pub mod Bodies
-pub mod Found
-pub mod Folding
-pub mod Judging
-pub mod Ordering
-pub mod Filling
-pub mod Loading
+pub mod Says
