@@ -1,3 +1,6 @@
 pub mod Reading
 pub mod Bodies
 pub mod Says
+pub mod Folding
+pub mod Deciding
+pub mod Ordering

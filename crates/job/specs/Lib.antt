@@ -3,3 +3,4 @@ pub mod Kinds
 pub mod Record
 pub mod Fold
 pub mod File
+pub mod Reached
