@@ -26,9 +26,9 @@ module _ {X B : Type 0} (call : Call X B) where
       record { tells = t; leaves = ap (λ (t : Told X). after t (call .writes) (call .held)) t }
 
   -- PASSED HERE: no check holds, and what was to be written is written
-  pub works : (now : B) → none ≡ first (call .checks) → now ≡ call .writes → Does call (done (call .value)) now
-  works now e w =
-      let t : done (call .value) ≡ answerOf call = ap (λ (o : Option Numbered). toldBy o (call .value)) e in
+  pub works : (x : X) (now : B) → none ≡ first (call .checks) → x ≡ call .value → now ≡ call .writes → Does call (done x) now
+  works x now e v w =
+      let t : done x ≡ answerOf call = ap done v ∙ ap (λ (o : Option Numbered). toldBy o (call .value)) e in
       record { tells = t; leaves = w ∙ ap (λ (t : Told X). after t (call .writes) (call .held)) t }
 
   -- a refusal is given exactly when its check holds and none before it does
@@ -67,6 +67,10 @@ module _ (checks : List (Check Numbered)) (N T : ℕ) where
   -- none holds
   pub judges-good : (made : Made) (s : Settings) → made ≡ Good s → (s ≡ settingsOf N T) × Sound s → none ≡ first checks → Judges made checks N T
   judges-good made s e k q = record { says = ap saidMade e ∙ q; good = λ t g. let q : s ≡ t = cc in subst (λ (x : Settings). (x ≡ settingsOf N T) × Sound x) q k }
+
+  -- after others that were asked before and passed
+  pub judges-then : {made : Made} (before : List (Check Numbered)) → first before ≡ none → Judges made checks N T → Judges made (before ++ checks) N T
+  judges-then before e j = record { says = j .says ∙ sym (first-passed before checks e); good = j .good }
 
 -- some checks were asked by a function of their own, and others come after them
 module _ {checks : List (Check Numbered)} {N T : ℕ} {made : Made} (j : Judges made checks N T) (later : List (Check Numbered)) where

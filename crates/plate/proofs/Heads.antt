@@ -1,11 +1,14 @@
--- What goes with a table: the limits on its columns as inequalities. Each is one comparison, read either way. Assumes nothing.
-use mathlib.Core.Path.{_≡_}
+-- What goes with a table: the limits on its columns as inequalities, each one comparison, read either way; and
+-- the settings that it was made for. Assumes nothing.
+use mathlib.Core.Path.{_≡_, ap}
 use mathlib.Core.Bool.{true, false}
-use Prim.Native.Nat.{ℕ, _+_, _≤_, _<_}
+use Prim.Native.Nat.{ℕ, _+_, _≤_, _<_, min}
+use native.Mathlib.Omega.{arith}
 use borrow.Author.Tests.{ltb-true, ltb-false, leb-true, leb-false, lt-ltb, le-ltb, le-leb, lt-leb}
 use Rattle.paper.specs.Limits.{mostColumns}
-use Rattle.plate.specs.Head.{both, isOver, isFull, isLess}
+use Rattle.plate.specs.Head.{both, capped, isOver, isFull, isLess, cellsOf, SettingsFor}
 use Rattle.plate.specs.declared.head.Head.{Head}
+use Rattle.plate.specs.declared.settings.Settings.{Settings}
 
 module _ (head : Head) where
   -- columns beyond the most
@@ -17,10 +20,23 @@ module _ (head : Head) where
   unfolding isOver
   few-not-over l = le-ltb mostColumns (head .columns) l
 
+  pub capped-same : isOver head ≡ false → capped head ≡ head
+  capped-same e =
+      let l = not-over e in
+      let m : min (head .columns) mostColumns ≡ head .columns = omega arith in
+      ap (λ (n : ℕ). record { height = head .height; members = head .members; columns = n }) m
+
+  pub capped-not-over : isOver (capped head) ≡ false
+  unfolding isOver
+  capped-not-over = le-ltb mostColumns (min (head .columns) mostColumns) (omega arith)
+
   -- no room for one more
   pub not-full : isFull head ≡ false → head .columns < mostColumns
   unfolding isFull
   not-full e = leb-false mostColumns (head .columns) e
+
+  pub full-over : isFull head ≡ false → isOver head ≡ false
+  full-over e = few-not-over (let l = not-full e in omega arith)
 
   pub few-not-full : head .columns < mostColumns → isFull head ≡ false
   unfolding isFull
@@ -44,3 +60,14 @@ module _ (head : Head) where
     pub more-not-less : other .columns ≤ head .columns → isLess head other ≡ false
     unfolding isLess
     more-not-less l = le-ltb (head .columns) (other .columns) l
+
+-- the settings that a table was made for are its head's
+module _ {head : Head} {s : Settings} (k : SettingsFor head s) where
+  pub cells-for : s .cells ≡ cellsOf head
+  cells-for = ap (λ (s : Settings). s .cells) (k .is)
+
+  pub height-for : s .height ≡ head .height
+  height-for = ap (λ (s : Settings). s .height) (k .is)
+
+  pub members-for : s .members ≡ head .members
+  members-for = ap (λ (s : Settings). s .members) (k .is)

@@ -1,6 +1,7 @@
 -- What goes with a table, document 01's 'With a table goes its column count c', together with the settings that it was made for: its
 -- arithmetic and its limits, here and nowhere else. Assumes nothing.
-use Prim.Native.Nat.{ℕ, _+_, _-_}
+use Prim.Native.Nat.{ℕ, _+_, _-_, min}
+use mathlib.Core.Path.{_≡_}
 use mathlib.Core.Bool.{Bool}
 use mathlib.Core.List.{List}
 use lib.Dec.{leb, ltb}
@@ -8,7 +9,8 @@ use Rattle.lists.specs.Checks.{Check}
 use Rattle.paper.specs.Limits.{mostColumns}
 use Rattle.paper.specs.Table.{cells, limit}
 use Rattle.plate.specs.Refusal.{Told, done, refusal, Numbered, check}
-use Rattle.plate.specs.Settings.{settingsChecks}
+use Rattle.plate.specs.Settings.{settingsChecks, settingsOf, Sound}
+use Rattle.plate.specs.declared.settings.Settings.{Settings}
 use Rattle.plate.specs.declared.head.Head.{Head}
 use Rattle.plate.specs.declared.head.Tabled.{Tabled}
 use Rattle.plate.specs.declared.head.Tabled.the-variants.{Done, Refused}
@@ -43,6 +45,10 @@ both head other = record { height = head .height; members = head .members; colum
 abbrev pub less : Head → Head → Head
 less head other = record { height = head .height; members = head .members; columns = head .columns - other .columns }
 
+-- no more columns than a table can have
+abbrev pub capped : Head → Head
+capped head = record { height = head .height; members = head .members; columns = min (head .columns) mostColumns }
+
 -- ---- limits
 
 -- columns beyond the most that a table can have; no room for one more; fewer than the other's
@@ -61,6 +67,11 @@ cellsOf head = cells (head .height) (head .members)
 
 unfoldable pub limitOf : Head → ℕ → ℕ
 limitOf head t = limit (head .members) (head .columns) t
+
+-- the settings that the table was made for
+pub record SettingsFor (head : Head) (s : Settings) : Type 0 where
+  pub is : s ≡ settingsOf (head .height) (head .members)
+  pub sound : Sound s
 
 -- ---- checks
 

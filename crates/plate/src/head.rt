@@ -2,7 +2,7 @@
 // arithmetic and its limits are here and nowhere else.
 ghost use mathlib.Core.Path.{_≡_};
 ghost use mathlib.Core.Bool.{cond};
-ghost use Rattle.plate.specs.Head.{clearedHead, more, both, less, isOver, isFull, isLess};
+ghost use Rattle.plate.specs.Head.{clearedHead, more, both, less, capped, isOver, isFull, isLess};
 use crate::refusal::Refusal;
 
 #[repr(C)]
@@ -100,5 +100,19 @@ impl Head {
             members: self.members,
             columns: self.columns - other.columns,
         }
+    }
+
+    // No more columns than a table can have.
+    pub fn capped(self) -> Head
+        ensures { λ r. ⌜ r ≡ capped self ⌝ }
+    {
+        if Head::MOST_COLUMNS < self.columns {
+            return Head {
+                height: self.height,
+                members: self.members,
+                columns: Head::MOST_COLUMNS,
+            };
+        }
+        self
     }
 }

@@ -2,9 +2,9 @@
 use Prim.Native.Nat.{ℕ}
 use mathlib.Core.List.{List}
 use Rattle.lists.specs.Rewrite.{rewritten}
-use Rattle.paper.specs.Layer.{shares}
+use Rattle.paper.specs.Layer.{Column, shares}
 use Rattle.paper.specs.Table.{cells, cellOf}
 
 -- a buffer with the table of these columns written into it: what stands past the table stays
-unfoldable pub tableOf : ℕ → ℕ → List (List ℕ) → List ℕ → List ℕ
+unfoldable pub tableOf : ℕ → ℕ → List Column → List ℕ → List ℕ
 tableOf N T columns old = rewritten (λ i x. cellOf T (shares columns) i) (cells N T) old

@@ -3,9 +3,9 @@ use mathlib.Core.Path.{sym, ap, _∙_}
 use native.Mathlib.Omega.{arith}
 use borrow.Author.Needs.{needs}
 use Rattle.column.specs.declared.Judged.{Judged}
-use Rattle.table.proofs.Cells.{addend-allowed, addend-barred}
-use Rattle.table.proofs.addend_of.Statement.{statement}
-use Rattle.table.proofs.addend_of.Tie as tie
+use Rattle.adding.proofs.Addends.{addend-allowed, addend-barred}
+use Rattle.adding.proofs.addend_of.Statement.{statement}
+use Rattle.adding.proofs.addend_of.Tie as tie
 
 returns : tie.Need-returns
 returns c =

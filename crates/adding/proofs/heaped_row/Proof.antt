@@ -6,12 +6,13 @@ use native.Mathlib.Omega.{arith}
 use borrow.Author.Count.{below-none, below-more}
 use borrow.Author.Needs.{needs}
 use Rattle.lists.proofs.Search.{found, missed}
-use Rattle.table.specs.Limits.{heaped}
-use Rattle.table.proofs.heaped_row.Statement.{statement}
-use Rattle.table.proofs.heaped_row.Tie as tie
+use Rattle.paper.specs.Layer.{columnOf}
+use Rattle.adding.specs.Heaped.{heaped}
+use Rattle.adding.proofs.heaped_row.Statement.{statement}
+use Rattle.adding.proofs.heaped_row.Tie as tie
 
 abbrev Inv-loop : tie.InvT-loop
-Inv-loop table column limits s row j₀ j = (j ≤ s .tmax) × ((k : ℕ) → k < j → heaped (s .members) limits table column (row * s .tmax) k ≡ false)
+Inv-loop table column limits s row j₀ j = (j ≤ s .tmax) × ((k : ℕ) → k < j → heaped (s .members) limits table (columnOf column) (row * s .tmax) k ≡ false)
 
 abbrev μ-loop : tie.MeasureT-loop
 μ-loop table column limits s row j₀ j = s .tmax - j

@@ -5,14 +5,15 @@ use native.Mathlib.Omega.{arith}
 use lib.ListN.{getD}
 use Rattle.lists.specs.Rewrite.{Span}
 use Rattle.lists.proofs.Spans.{span-none, span-more, span-end}
-use Rattle.table.specs.Cells.{addend}
+use Rattle.paper.specs.Layer.{columnOf}
+use Rattle.adding.specs.Adding.{addend}
 use Rattle.table.proofs.Cells.{cell-in}
-use Rattle.table.proofs.add_rows.Statement.{statement}
-use Rattle.table.proofs.add_rows.Tie as tie
+use Rattle.adding.proofs.add_rows.Statement.{statement}
+use Rattle.adding.proofs.add_rows.Tie as tie
 
 abbrev Inv-loop : tie.InvT-loop
 Inv-loop table₀ column s row₀ table row =
-    (row ≤ s .rows) × Span 0 0 (row * s .tmax) (λ i x. x + addend (s .members) column i) table₀ table
+    (row ≤ s .rows) × Span 0 0 (row * s .tmax) (λ i x. x + addend (s .members) (columnOf column) i) table₀ table
 
 abbrev μ-loop : tie.MeasureT-loop
 μ-loop table₀ column s row₀ table row = s .rows - row
@@ -22,7 +23,7 @@ S l = l .before .before .before
 
 -- the rows to come are as they were, so that what is added to them fits
 fits : (l : tie.At-loop Inv-loop μ-loop) → l .loop .row < S l .args .s .rows → (j : ℕ) → j < S l .args .s .tmax
-    → getD (l .loop .table) (l .loop .row * S l .args .s .tmax + j) 0 + addend (S l .args .s .members) (S l .args .column .now) (l .loop .row * S l .args .s .tmax + j) < 4294967296
+    → getD (l .loop .table) (l .loop .row * S l .args .s .tmax + j) 0 + addend (S l .args .s .members) (columnOf (S l .args .column .now)) (l .loop .row * S l .args .s .tmax + j) < 4294967296
 fits l h j u =
     let i = cell-in (S l .pre .0) (l .loop .row) h j u in
     omega (arith, l .loop .inv .1 .above (l .loop .row * S l .args .s .tmax + j) (omega arith), S l .pre .1 .1 (l .loop .row * S l .args .s .tmax + j) i)

@@ -5,14 +5,15 @@ use native.Mathlib.Omega.{arith}
 use lib.ListN.{getD}
 use Rattle.lists.specs.Rewrite.{Span}
 use Rattle.lists.proofs.Spans.{span-none, span-set, span-keep, span-end, span-unread}
-use Rattle.table.specs.Cells.{addend}
+use Rattle.paper.specs.Layer.{columnOf}
+use Rattle.adding.specs.Adding.{addend}
 use Rattle.table.proofs.Cells.{cell-in, row-in}
-use Rattle.table.proofs.add_row.Statement.{statement}
-use Rattle.table.proofs.add_row.Tie as tie
+use Rattle.adding.proofs.add_row.Statement.{statement}
+use Rattle.adding.proofs.add_row.Tie as tie
 
 abbrev Inv-loop : tie.InvT-loop
 Inv-loop table₀ column s row base j₀ table j =
-    (j ≤ s .tmax) × Span 0 (row * s .tmax) j (λ k x. x + addend (s .members) column (row * s .tmax + k)) table₀ table
+    (j ≤ s .tmax) × Span 0 (row * s .tmax) j (λ k x. x + addend (s .members) (columnOf column) (row * s .tmax + k)) table₀ table
 
 abbrev μ-loop : tie.MeasureT-loop
 μ-loop table₀ column s row base j₀ table j = s .tmax - j
