@@ -33,96 +33,97 @@ one-more : (N : ℕ) (columns : List Column) (bs : List ℕ) → InOrder N colum
 one-more N [] bs o e = (e, tt)
 one-more N (c ∷ columns) bs o e = (o .0, one-more N columns bs (o .1) e)
 
+-- states with one head and bound ask for the same
+same-asked : (st st′ : State) → st .head ≡ st′ .head → st .bound ≡ st′ .bound → askedOf st ≡ askedOf st′
+same-asked st st′ h b = λ i. record { height = h i .height; members = h i .members; bound = b i }
+
 module _ (asking : Asking) (s : List ℕ) where
   -- ---- on the way
 
-  module _ (byte : (i : ℕ) → getD s i 0 < 256) where
-    -- settings that were not refused
-    pub record Asks (a : Asked) : Type 0 where
-      pub fine : first (settingsChecks (a .height) (a .members)) ≡ none
-      pub place : ℕ
-      pub unasked : first (asking place a) ≡ none
-      pub bits : a .members < 4_294_967_296
-      pub low-bound : a .bound < 4_294_967_296
+  -- settings that were not refused
+  pub record Asks (a : Asked) : Type 0 where
+    pub fine : first (settingsChecks (a .height) (a .members)) ≡ none
+    pub place : ℕ
+    pub unasked : first (asking place a) ≡ none
+    pub read-there : a ≡ askedAt s place
 
-    -- what is known of the state, and of the columns so far
-    pub record Under (st : State) (columns : List Column) : Type 0 where
-      pub settled : st .begun ≡ true → Asks (askedOf st)
-      pub bare : st .begun ≡ false → columns ≡ []
-      pub unended : st .ended ≡ false
-      pub counts : st .head .columns ≡ length columns
-      pub few : st .head .columns ≤ mostColumns
-      pub order : InOrder (st .head .height) columns
+  -- what is known of the state, and of the columns so far
+  pub record Under (st : State) (columns : List Column) : Type 0 where
+    pub settled : st .begun ≡ true → Asks (askedOf st)
+    pub bare : st .begun ≡ false → columns ≡ []
+    pub unended : st .ended ≡ false
+    pub counts : st .head .columns ≡ length columns
+    pub few : st .head .columns ≤ mostColumns
+    pub order : InOrder (st .head .height) columns
 
-    step : (st : State) (columns : List Column) (at : ℕ) (m : Moved) (t : Told What) → Passes asking at t → SaysBy s st at m t → Under st columns
-        → Under (m .state) (columns ++ columnIn s t)
-    step st columns at m (done (settings a)) p q u =
-        let asks : Asks a = record {
-          fine = q .fine;
-          place = at;
-          unasked = p;
-          bits = rw (q .asked) (quad-small s byte (bodyAt at + 2));
-          low-bound = rw (q .asked) (quad-small s byte (bodyAt at + 6));
-        } in
-        let none-yet : columns ≡ [] = u .bare (q .first-of-all) in
-        let new : Under (begin st a) columns = record {
-          settled = λ _. asks;
-          bare = λ e. none-yet;
-          unended = u .unended;
-          counts = u .counts;
-          few = u .few;
-          order = subst (InOrder (a .height)) (sym none-yet) tt;
-        } in
-        subst (Under (m .state)) (sym (append-nil columns)) (subst (λ (x : State). Under x columns) (sym (q .state)) new)
-    step st columns at m (done (column from count)) p q u =
-        let l = length-append columns (columnOf (words s from count) ∷ []) in
-        let room = not-full (st .head) (q .room) in
-        let new : Under (counted st) (columns ++ (columnOf (words s from count) ∷ [])) = record {
-          settled = u .settled;
-          bare = λ e. absurd (let b = q .begun in let z : _≡_ {A = ℕ} 0 1 = cc in omega arith);
-          unended = u .unended;
-          counts = omega (arith, u .counts);
-          few = omega arith;
-          order = one-more (st .head .height) columns (words s from count) (u .order) (q .order);
-        } in
-        subst (λ (x : State). Under x (columns ++ (columnOf (words s from count) ∷ []))) (sym (q .state)) new
-    step st columns at m (done (ended n)) p q u = absurd p
-    step st columns at m (done remark) p q u = subst (Under (m .state)) (sym (append-nil columns)) (subst (λ (x : State). Under x columns) (sym (q .state)) u)
-    step st columns at m (refused number place) p q u = absurd p
+  step : (st : State) (columns : List Column) (at : ℕ) (m : Moved) (t : Told What) → Passes asking at t → SaysBy s st at m t → Under st columns
+      → Under (m .state) (columns ++ columnIn s t)
+  step st columns at m (done (settings a)) p q u =
+      let asks : Asks a = record {
+        fine = q .fine;
+        place = at;
+        unasked = p;
+        read-there = q .asked;
+      } in
+      let none-yet : columns ≡ [] = u .bare (q .first-of-all) in
+      let new : Under (begin st a) columns = record {
+        settled = λ _. asks;
+        bare = λ e. none-yet;
+        unended = u .unended;
+        counts = u .counts;
+        few = u .few;
+        order = subst (InOrder (a .height)) (sym none-yet) tt;
+      } in
+      subst (Under (m .state)) (sym (append-nil columns)) (subst (λ (x : State). Under x columns) (sym (q .state)) new)
+  step st columns at m (done (column from count)) p q u =
+      let l = length-append columns (columnOf (words s from count) ∷ []) in
+      let room = not-full (st .head) (q .room) in
+      let new : Under (counted st) (columns ++ (columnOf (words s from count) ∷ [])) = record {
+        settled = u .settled;
+        bare = λ e. absurd (let b = q .begun in let z : _≡_ {A = ℕ} 0 1 = cc in omega arith);
+        unended = u .unended;
+        counts = omega (arith, u .counts);
+        few = omega arith;
+        order = one-more (st .head .height) columns (words s from count) (u .order) (q .order);
+      } in
+      subst (λ (x : State). Under x (columns ++ (columnOf (words s from count) ∷ []))) (sym (q .state)) new
+  step st columns at m (done (ended n)) p q u = absurd p
+  step st columns at m (done remark) p q u = subst (Under (m .state)) (sym (append-nil columns)) (subst (λ (x : State). Under x columns) (sym (q .state)) u)
+  step st columns at m (refused number place) p q u = absurd p
 
-    pub under : {st : State} {at : ℕ} (r : Reached asking s st at) → Under st (columnsTo r)
-    under start = record {
-      settled = λ b. absurd (let z : _≡_ {A = ℕ} 0 1 = cc in omega arith);
-      bare = λ _. refl;
-      unended = refl;
-      counts = refl;
-      few = omega arith;
-      order = tt;
-    }
-    under (further {st} {at} r p) = step st (columnsTo r) at (readRecord s st at) (readRecord s st at .told) p (read-says s st at .by) (under r)
+  pub under : {st : State} {at : ℕ} (r : Reached asking s st at) → Under st (columnsTo r)
+  under start = record {
+    settled = λ b. absurd (let z : _≡_ {A = ℕ} 0 1 = cc in omega arith);
+    bare = λ _. refl;
+    unended = refl;
+    counts = refl;
+    few = omega arith;
+    order = tt;
+  }
+  under (further {st} {at} r p) = step st (columnsTo r) at (readRecord s st at) (readRecord s st at .told) p (read-says s st at .by) (under r)
 
-    -- ---- at the end
+  -- ---- at the end
 
-    pub ordered : (f : Finished) → jobFrom asking s ≡ done f → Ordered asking (f .job)
-    ordered f e = go (end-decides asking s f .0 e)
-      where
-        go : ((st : State) × (at : ℕ) × (r : Reached asking s st at) × Ends (readRecord s st at .told)
-            × (finished (askedOf (readRecord s st at .state)) (columnsTo r) (readRecord s st at .next) ≡ f)) → Ordered asking (f .job)
-        go (st, at, r, e, is) =
-            let u = under r in
-            let q = subst (SaysBy s st at (readRecord s st at)) (e .1) (read-says s st at .by) in
-            let a = u .settled (q .begun (u .unended)) in
-            subst (λ (g : Finished). Ordered asking (g .job)) is
-            (subst (λ (x : Asked). Ordered asking (record { asked = x; columns = columnsTo r })) (sym (q .asked))
-            (record {
-              fine = a .fine;
-              place = a .place;
-              unasked = a .unasked;
-              bits = a .bits;
-              low-bound = a .low-bound;
-              order = u .order;
-              few = omega (arith, u .few, u .counts);
-            }))
+  pub ordered : ((i : ℕ) → getD s i 0 < 256) → (f : Finished) → jobFrom asking s ≡ done f → Ordered asking (f .job)
+  ordered byte f e = go (end-decides asking s f .0 e)
+    where
+      go : ((st : State) × (at : ℕ) × (r : Reached asking s st at) × Ends (readRecord s st at .told)
+          × (finished (askedOf (readRecord s st at .state)) (columnsTo r) (readRecord s st at .next) ≡ f)) → Ordered asking (f .job)
+      go (st, at, r, e, is) =
+          let u = under r in
+          let q = subst (SaysBy s st at (readRecord s st at)) (e .1) (read-says s st at .by) in
+          let a = u .settled (q .begun (u .unended)) in
+          subst (λ (g : Finished). Ordered asking (g .job)) is
+          (subst (λ (x : Asked). Ordered asking (record { asked = x; columns = columnsTo r })) (sym (same-asked (readRecord s st at .state) st (q .head) (q .bound)))
+          (record {
+            fine = a .fine;
+            place = a .place;
+            unasked = a .unasked;
+            bits = rw (a .read-there) (quad-small s byte (bodyAt (a .place) + 2));
+            low-bound = rw (a .read-there) (quad-small s byte (bodyAt (a .place) + 6));
+            order = u .order;
+            few = omega (arith, u .few, u .counts);
+          }))
 
   -- ---- the settings stay
 
@@ -140,7 +141,7 @@ module _ (asking : Asking) (s : List ℕ) where
     stays (done (column from count)) q f e =
         let b = behind-done (columnOf (words s from count) ∷ []) (rest (m .state) (m .next)) f e in
         sym (b .2) ∙ later (m .state) (m .next) (ap (λ (x : State). x .begun) (q .state) ∙ begun) (b .0) (b .1) ∙ ap askedOf (q .state)
-    stays (done (ended columns)) q f e = let g : finished (askedOf (m .state)) [] (m .next) ≡ f = cc in sym (ap (λ (x : Finished). x .job .asked) g) ∙ q .asked
+    stays (done (ended columns)) q f e = let g : finished (askedOf (m .state)) [] (m .next) ≡ f = cc in sym (ap (λ (x : Finished). x .job .asked) g) ∙ same-asked (m .state) st (q .head) (q .bound)
     stays (done remark) q f e = later (m .state) (m .next) (ap (λ (x : State). x .begun) (q .state) ∙ begun) f e ∙ ap askedOf (q .state)
     stays (refused number place) q f e = absurd (let z : _≡_ {A = ℕ} 0 1 = cc in omega arith)
 

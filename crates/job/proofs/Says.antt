@@ -21,7 +21,7 @@ use Rattle.record.specs.Faults.{tail, frameChecks}
 use Rattle.record.specs.Places.{placed}
 use Rattle.record.proofs.Frames.{frame-passed}
 use Rattle.record.proofs.Places.{placed-passed, first-earlier}
-use Rattle.job.specs.State.{begin, counted, askedOf}
+use Rattle.job.specs.State.{begin, counted}
 use Rattle.job.specs.Kinds.{allowedHere, fits}
 use Rattle.job.specs.Record.{askedAt, columnsAt, boundariesAt, bodyChecks, Ready, kindChecks, recordKind, recordChecks, What, settings, column, ended, remark, readingOf, again, Moved, moved, readRecord}
 use Rattle.job.specs.declared.Asked.{Asked}
@@ -50,7 +50,8 @@ pub record ColumnRead (s : List ℕ) (st : State) (at : ℕ) (m : Moved) (start 
   pub within : start + 2 * count ≤ length s
 
 pub record EndRead (s : List ℕ) (st : State) (at : ℕ) (m : Moved) (columns : ℕ) : Type 0 where
-  pub asked : askedOf (m .state) ≡ askedOf st
+  pub head : m .state .head ≡ st .head
+  pub bound : m .state .bound ≡ st .bound
   pub counts : columns ≡ st .head .columns
   -- where it was not read before
   pub begun : st .ended ≡ false → st .begun ≡ true
@@ -113,7 +114,8 @@ module _ (s : List ℕ) (st : State) (at : ℕ) where
       let q = first-none (bodyChecks s st at kind.End) .0 (body kind.End e) in
       record {
         by = record {
-          asked = refl;
+          head = refl;
+          bound = refl;
           counts = eqb-true (columnsAt s at) (st .head .columns) (not-false (eqb (columnsAt s at) (st .head .columns)) (q .0));
           begun = λ _. f .allows;
           ahead = λ _. record { on = omega arith; within = f .within };
@@ -132,7 +134,8 @@ module _ (s : List ℕ) (st : State) (at : ℕ) where
   again-says : st .ended ≡ true → (o : Option Numbered) → Says s st at (moved st at (toldBy o (again st at)))
   again-says e none = record {
     by = record {
-      asked = refl;
+      head = refl;
+      bound = refl;
       counts = refl;
       begun = λ f. absurd (let z : _≡_ {A = ℕ} 0 1 = cc in omega arith);
       ahead = λ f. absurd (let z : _≡_ {A = ℕ} 0 1 = cc in omega arith);
