@@ -8,7 +8,7 @@ ghost use Rattle.plate.specs.Datum.{atRow};
 ghost use Rattle.plate.specs.Settings.{Sound};
 ghost use Rattle.sequence.specs.Least.{plus};
 ghost use Rattle.sequence.specs.Sheets.{mark, unmark};
-ghost use Rattle.sheets.specs.Cells.{cellFrom};
+ghost use Rattle.table.specs.Cells.{cellFrom};
 ghost use Rattle.sheets.specs.Entries.{leastEnd};
 ghost use Rattle.sheets.specs.Least.{IsLeast};
 ghost use Rattle.plan.specs.Planning.{greatestError, Ready, tableRules, plannedErrors, plannedThicknesses, plannedList};
@@ -17,10 +17,10 @@ ghost use Rattle.plan.specs.Rows.{RowTo, Under, Permitted, Planned};
 use plate::settings::Settings;
 use sheets::Least;
 use sheets::NONE;
-use sheets::cell_at;
 use sheets::entry_index;
 use sheets::is_layer;
 use sheets::least_end;
+use table::cell_of;
 
 // Where the entry of the row q and the count m stands.
 fn entry_of(s: Settings, q: usize, m: usize) -> usize
@@ -32,12 +32,12 @@ fn entry_of(s: Settings, q: usize, m: usize) -> usize
 }
 
 // The cell of the layer from row `start` of thickness t.
-fn cell_of(table: &[u32], s: Settings, start: usize, t: usize) -> u32
+fn layer_cell(table: &[u32], s: Settings, start: usize, t: usize) -> u32
     requires { ⌜ Sound s ⌝ }
     requires { ⌜ (start ≤ s .rows) × (t ≤ s .tmax) ⌝ }
     ensures { λ r. ⌜ r ≡ cellFrom (s .members) (now (table .entry)) (atRow (s .tmax) start) t ⌝ }
 {
-    cell_at(table, s.tmax as u32, start as u32, t as u32)
+    cell_of(table, s.tmax as u32, start as u32, t as u32)
 }
 
 // Whether a layer from row `start` of thickness t is permitted.
@@ -49,7 +49,7 @@ fn may_use(table: &[u32], s: Settings, bound: u32, start: usize, t: usize) -> bo
     if !is_layer(s, start, t) {
         return false;
     }
-    cell_of(table, s, start, t) <= bound
+    layer_cell(table, s, start, t) <= bound
 }
 
 // An entry with a layer's error more, and none where there is none: only none and an error above 0 come to more than the greatest entry.
@@ -241,7 +241,7 @@ fn relax(
     let start = q - t;
     let from = entry_of(s, start, first);
     let to = entry_of(s, q, first) + 1;
-    let cell = cell_of(table, s, start, t);
+    let cell = layer_cell(table, s, start, t);
     let end = end_count(s, start);
     put_all(errors, thicknesses, from, to, cell, t, end - first);
 }
