@@ -4,16 +4,25 @@ ghost use Prim.Native.Nat.{ℕ, _+_, _-_, _*_, _<_, _≤_};
 ghost use lib.ListN.{length};
 ghost use Rattle.lists.specs.Rewrite.{Span};
 ghost use Rattle.paper.specs.Sheets.{rowStart, entryIndex, missing};
+ghost use Rattle.plate.specs.Call.{Does};
 ghost use Rattle.plate.specs.Datum.{atRow};
-ghost use Rattle.plate.specs.Settings.{Sound};
+ghost use Rattle.plate.specs.Head.{heldIn, SettingsFor};
+ghost use Rattle.plate.specs.Refusal.{told};
+ghost use Rattle.plate.specs.Settings.{Sound, Judges};
 ghost use Rattle.sequence.specs.Least.{plus};
 ghost use Rattle.sequence.specs.Sheets.{mark, unmark};
 ghost use Rattle.table.specs.Cells.{cellFrom};
 ghost use Rattle.sheets.specs.Entries.{leastEnd};
 ghost use Rattle.sheets.specs.Least.{IsLeast};
+ghost use Rattle.plan.specs.Plan.{planRest, planChecks, planning, sheetsIn};
 ghost use Rattle.plan.specs.Planning.{greatestError, Ready, tableRules, plannedErrors, plannedThicknesses, plannedList};
 ghost use Rattle.plan.specs.Putting.{Placed, PutOn};
 ghost use Rattle.plan.specs.Rows.{RowTo, Under, Permitted, Planned};
+use plate::head::Head;
+use plate::refusal::Answer;
+use plate::refusal::Reason;
+use plate::refusal::refusal_at;
+use plate::settings::Made;
 use plate::settings::Settings;
 use sheets::Least;
 use sheets::NONE;
@@ -21,6 +30,7 @@ use sheets::entry_index;
 use sheets::is_layer;
 use sheets::least_end;
 use table::cell_of;
+use table::check_table;
 
 // Where the entry of the row q and the count m stands.
 fn entry_of(s: Settings, q: usize, m: usize) -> usize
@@ -352,4 +362,63 @@ fn plan_sheets(
 {
     fill_sheets(table, s, bound, errors, thicknesses);
     fill_list(table, s, bound, errors, list);
+}
+
+// Where the settings are in order: 3 (table, error sheet, thickness sheet, list), by the lengths of the last three, 7, 6.
+fn check_rest(
+    table: &[u32],
+    head: Head,
+    s: Settings,
+    errors: usize,
+    thicknesses: usize,
+    list: usize,
+) -> Made
+    requires { ⌜ SettingsFor head s ⌝ }
+    ensures { λ r. ⌜ Judges r (planRest (heldIn head (now (table .entry))) errors thicknesses list) (head .height) (head .members) ⌝ }
+{
+    if table.len() < s.cells {
+        return Made::Bad(refusal_at(Reason::ShortBuffer, 1));
+    }
+    if errors < s.entries {
+        return Made::Bad(refusal_at(Reason::ShortBuffer, 2));
+    }
+    if thicknesses < s.entries {
+        return Made::Bad(refusal_at(Reason::ShortBuffer, 3));
+    }
+    if list < s.counts {
+        return Made::Bad(refusal_at(Reason::ShortBuffer, 4));
+    }
+    check_table(table, head)
+}
+
+// 1, 2, 3, 7, 6.
+fn check_plan(table: &[u32], head: Head, errors: usize, thicknesses: usize, list: usize) -> Made
+    ensures { λ r. ⌜ Judges r (planChecks (heldIn head (now (table .entry))) errors thicknesses list) (head .height) (head .members) ⌝ }
+{
+    let made = Settings::new(head.height, head.members);
+    match made {
+        Made::Bad(refusal) => Made::Bad(refusal),
+        Made::Good(s) => check_rest(table, head, s, errors, thicknesses, list),
+    }
+}
+
+// Document 01, 'Plan': 1, 2, 3 (table, error sheet, thickness sheet, list), 7, 6.
+pub fn plan(
+    table: &[u32],
+    head: Head,
+    bound: u32,
+    errors: &mut [u64],
+    thicknesses: &mut [u8],
+    list: &mut [u64],
+) -> Answer
+    ensures { λ r. ⌜ Does (planning (heldIn head (now (table .entry))) bound (sheetsIn (errors .entry) (thicknesses .entry) (list .entry))) (told r) (sheetsIn (errors .exit) (thicknesses .exit) (list .exit)) ⌝ }
+{
+    let made = check_plan(table, head, errors.len(), thicknesses.len(), list.len());
+    match made {
+        Made::Bad(refusal) => Answer::Refused(refusal),
+        Made::Good(s) => {
+            plan_sheets(table, s, bound, errors, thicknesses, list);
+            Answer::Done(s.counts as u64)
+        }
+    }
 }
