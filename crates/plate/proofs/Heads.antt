@@ -1,14 +1,18 @@
 -- What goes with a table: the limits on its columns as inequalities, each one comparison, read either way; and
 -- the settings that it was made for. Assumes nothing.
-use mathlib.Core.Path.{_≡_, ap}
+use mathlib.Core.Path.{_≡_, ap, subst}
+use mathlib.Core.Option.{none}
 use mathlib.Core.Bool.{true, false}
-use Prim.Native.Nat.{ℕ, _+_, _≤_, _<_, min}
+use Prim.Native.Nat.{ℕ, _+_, _-_, _≤_, _<_, min}
 use native.Mathlib.Omega.{arith}
 use borrow.Author.Tests.{ltb-true, ltb-false, leb-true, leb-false, lt-ltb, le-ltb, le-leb, lt-leb}
+use Rattle.lists.specs.Checks.{first}
 use Rattle.paper.specs.Limits.{mostColumns}
-use Rattle.plate.specs.Head.{both, capped, isOver, isFull, isLess, cellsOf, SettingsFor}
+use Rattle.plate.specs.Head.{both, less, capped, isOver, isFull, isLess, cellsOf, headChecks, SettingsFor}
+use Rattle.plate.specs.Settings.{Sound}
 use Rattle.plate.specs.declared.head.Head.{Head}
 use Rattle.plate.specs.declared.settings.Settings.{Settings}
+use Rattle.plate.proofs.Sizes.{settings-fine}
 
 module _ (head : Head) where
   -- columns beyond the most
@@ -52,6 +56,11 @@ module _ (head : Head) where
     unfolding isOver
     few-not-over-both l = le-ltb mostColumns (head .columns + other .columns) l
 
+    -- what is left is no more
+    pub less-not-over : isOver head ≡ false → isOver (less head other) ≡ false
+    unfolding isOver
+    less-not-over e = le-ltb mostColumns (head .columns - other .columns) (let l = ltb-false mostColumns (head .columns) e in omega arith)
+
     -- fewer than the other's
     pub not-less : isLess head other ≡ false → other .columns ≤ head .columns
     unfolding isLess
@@ -71,3 +80,7 @@ module _ {head : Head} {s : Settings} (k : SettingsFor head s) where
 
   pub members-for : s .members ≡ head .members
   members-for = ap (λ (s : Settings). s .members) (k .is)
+
+  -- and in order
+  pub head-fine : first (headChecks head) ≡ none
+  head-fine = settings-fine (head .height) (head .members) (subst Sound (k .is) (k .sound))

@@ -1,8 +1,12 @@
--- The sizes that follow from settings in range: each is as `Sound` says. Assumes nothing.
+-- The sizes that follow from settings in range: each is as `Sound` says; and settings of which that is known are in range. Assumes nothing.
 use mathlib.Core.Path.{_≡_, refl, ap, _∙_}
 use Prim.Native.Nat.{ℕ, _+_, _-_, _*_, _^_, _≤_, _<_}
 use native.Mathlib.Nat.{mul-le-mul}
 use native.Mathlib.Omega.{arith}
+use mathlib.Core.Option.{none}
+use borrow.Author.Tests.{le-ltb, ne-eqb}
+use Rattle.lists.specs.Checks.{first}
+use Rattle.paper.specs.Limits.{leastHeight, greatestHeight}
 use Rattle.paper.specs.Layer.{tmin, tmax}
 use Rattle.paper.specs.Table.{rows, cells}
 use Rattle.paper.specs.Sequence.{M}
@@ -10,7 +14,7 @@ use Rattle.paper.specs.Sheets.{heights, entries}
 use Rattle.paper.specs.Layer as paper
 use Rattle.paper.proofs.Counts.{counts-few}
 use Rattle.paper.proofs.Thicknesses.{tmax-le, tmax-member, tmin-least, empty-is-zero}
-use Rattle.plate.specs.Settings.{settingsOf, Sound}
+use Rattle.plate.specs.Settings.{settingsChecks, settingsOf, Sound}
 use Rattle.plate.specs.declared.settings.Settings.{Settings}
 
 -- a set that is not 0 has a greatest member
@@ -63,3 +67,10 @@ made-is N T lo hi count n h p q m =
     ap (λ (e : ℕ). record { height = N; members = T; tmin = lo; tmax = hi; rows = N + 2 * hi - 2; cells = (N + 2 * hi - 2) * hi; counts = count; entries = e * (count + 1) })
     (let e : N + 2 * hi - 2 + 1 ≡ N + 2 * hi - 1 = omega arith in e)
     ∙ rw (p, q, m)
+
+-- settings that were made pass 1 and 2
+pub settings-fine : (N T : ℕ) → Sound (settingsOf N T) → first (settingsChecks N T) ≡ none
+unfolding settingsChecks
+settings-fine N T k =
+    let f : T ≡ 0 → ⊥ = (λ z. let e = empty-is-zero T (omega arith) .1 z in absurd (omega (arith, e, k .thin, k .order))) in
+    simp (le-ltb N leastHeight (k .low), le-ltb greatestHeight N (k .high), ne-eqb T 0 f)

@@ -2,7 +2,7 @@
 -- arithmetic and its limits, here and nowhere else. Assumes nothing.
 use Prim.Native.Nat.{ℕ, _+_, _-_, min}
 use mathlib.Core.Path.{_≡_}
-use mathlib.Core.Bool.{Bool}
+use mathlib.Core.Bool.{Bool, _||_}
 use mathlib.Core.List.{List}
 use lib.Dec.{leb, ltb}
 use Rattle.lists.specs.Checks.{Check}
@@ -51,13 +51,22 @@ capped head = record { height = head .height; members = head .members; columns =
 
 -- ---- limits
 
--- columns beyond the most that a table can have; no room for one more; fewer than the other's
+-- columns beyond the most that a table can have
 unfoldable pub isOver : Head → Bool
 isOver head = ltb mostColumns (head .columns)
 
+-- of two tables: either, or both together
+abbrev pub eitherOver : Head → Head → Bool
+eitherOver head other = isOver head || isOver other
+
+abbrev pub anyOver : Head → Head → Bool
+anyOver head other = eitherOver head other || isOver (both head other)
+
+-- no room for one more
 unfoldable pub isFull : Head → Bool
 isFull head = leb mostColumns (head .columns)
 
+-- fewer than another's
 unfoldable pub isLess : Head → Head → Bool
 isLess head other = ltb (head .columns) (other .columns)
 

@@ -7,9 +7,9 @@ use native.Mathlib.Omega.{arith}
 use borrow.Author.Count.{below-none, below-more}
 use borrow.Author.Needs.{needs}
 use Rattle.lists.proofs.Checks.{or-false}
-use Rattle.table.specs.Limits.{apart}
-use Rattle.table.proofs.any_apart.Statement.{statement}
-use Rattle.table.proofs.any_apart.Tie as tie
+use Rattle.joining.specs.Parts.{apart}
+use Rattle.joining.proofs.any_apart.Statement.{statement}
+use Rattle.joining.proofs.any_apart.Tie as tie
 
 abbrev Inv-loop : tie.InvT-loop
 Inv-loop table other limits base width end found₀ j₀ found j =
@@ -34,7 +34,7 @@ any-apart-spec =
     Inv-loop
     μ-loop
     (λ c κs. search needs)
-    (λ c. (omega arith, c .row-end .ensures, λ z. below-none _))
+    (λ c. (omega arith, omega (arith, c .row-end .ensures), λ z. below-none _))
     (λ c. search needs)
     (λ c. search needs)
     (λ c. search needs)

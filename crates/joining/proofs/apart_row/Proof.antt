@@ -3,8 +3,8 @@ use mathlib.Core.Path.{sym}
 use borrow.Author.Needs.{needs}
 use borrow.Author.Tests.{not-true}
 use Rattle.lists.proofs.Search.{lowest-none}
-use Rattle.table.proofs.apart_row.Statement.{statement}
-use Rattle.table.proofs.apart_row.Tie as tie
+use Rattle.joining.proofs.apart_row.Statement.{statement}
+use Rattle.joining.proofs.apart_row.Tie as tie
 
 pub apart-row-spec : {M : Type 1} → statement M
 apart-row-spec =

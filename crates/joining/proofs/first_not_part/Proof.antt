@@ -1,71 +1,56 @@
--- `first_not_part` meets its contract. The loop's invariant: in no row before is a cell no part of the first table's. A row is searched
--- against the limits, which for its cells is the same test, and which are no greater than the greatest limit. Assumes nothing.
-use mathlib.Core.Path.{_≡_}
+-- `first_not_part` meets its contract: the limits are those of the columns that are left, which are no more than the first table's, so that
+-- none is above the greatest; and the second table, being in order, has no cell above it. Assumes nothing.
+use mathlib.Core.Path.{_≡_, ap, _∙_, subst}
 use mathlib.Core.Bool.{false}
-use Prim.Native.Nat.{ℕ, _-_, _*_, _≤_, _<_}
+use Prim.Native.Nat.{ℕ, _≤_}
 use native.Mathlib.Omega.{arith}
 use borrow.Author.Needs.{needs}
-use Rattle.lists.proofs.Search.{row-missed, row-found, missed}
-use Rattle.table.specs.Cells.{notPart, firstNotPart}
+use Rattle.lists.specs.Search.{lowest}
+use Rattle.lists.proofs.Search.{lowest-same}
+use Rattle.plate.specs.Head.{less, capped, isOver, SettingsFor}
+use Rattle.plate.specs.declared.head.Head.{Head}
+use Rattle.plate.proofs.Heads.{capped-same, cells-for, less-not-over}
 use Rattle.table.specs.Limits.{Limits}
-use Rattle.table.proofs.Cells.{part-row, row-in, cells-sound}
-use Rattle.table.proofs.Limits.{limits-under, under-less}
-use Rattle.table.proofs.first_not_part.Statement.{statement}
-use Rattle.table.proofs.first_not_part.Tie as tie
+use Rattle.table.proofs.Limits.{limits-under}
+use Rattle.joining.specs.Parts.{notPart, firstNotPart}
+use Rattle.joining.proofs.Parts.{part-at}
+use Rattle.joining.proofs.first_not_part.Statement.{statement}
+use Rattle.joining.proofs.first_not_part.Tie as tie
 
-abbrev Inv-loop : tie.InvT-loop
-Inv-loop table other s columns limits row₀ row =
-    (row ≤ s .rows) × Limits (s .members) columns limits × ((k : ℕ) → k < row * s .tmax → notPart (s .members) columns table other k ≡ false)
+module _ (c : tie.After-limits-of) where
+  abbrev s : tie.Start
+  s = c .before .before .before .before
 
-abbrev μ-loop : tie.MeasureT-loop
-μ-loop table other s columns limits row₀ row = s .rows - row
+  abbrev rest : Head
+  rest = less (s .args .head) (s .args .other-head)
 
-returns : tie.Need-returns Inv-loop μ-loop
+  few : isOver rest ≡ false
+  few = less-not-over (s .args .head) (s .args .other-head) (s .pre .1 .one .few)
+
+  limits : Limits rest (c .limits-of .result)
+  limits =
+      subst (λ (head : Head). Limits head (c .limits-of .result)) (capped-same rest few)
+      (subst (λ (head : Head). Limits (capped head) (c .limits-of .result)) (c .before .without .ensures) (c .limits-of .ensures))
+
+  for : SettingsFor rest (s .args .s)
+  for = record { is = s .pre .0 .is; sound = s .pre .0 .sound }
+
+returns : tie.Need-returns
 unfolding firstNotPart
 returns c =
-    let l = c .before .before .before .before .before .before .before in
-    let s = l .before .before .before .before in
-    let k = s .pre .0 in
-    row-found _ _ _ (l .loop .inv .2) _ (λ j u. part-row _ _ _ j (k .greatest) u _ _ (l .loop .inv .1) (k .thick) _ _) _ (c .before .before .apart-row .ensures) _
-    (omega (arith, cells-sound k, row-in k (l .loop .row) (omega arith))) (omega arith)
-
-loop-again : tie.Need-loop-again Inv-loop μ-loop
-loop-again c =
-    let l = c .before .before .before .before .before .before .before in
-    let s = l .before .before .before .before in
-    let k = s .pre .0 in (
-      omega arith,
-      l .loop .inv .1,
-      λ i u. row-missed _ _ _ (l .loop .inv .2) _ (λ j v. part-row _ _ _ j (k .greatest) v _ _ (l .loop .inv .1) (k .thick) _ _) _ (c .before .before .apart-row .ensures) (omega arith) i (omega arith),
-    )
-
-returns-2 : tie.Need-returns-2 Inv-loop μ-loop
-unfolding firstNotPart
-returns-2 c =
-    let l = c .before .before in
-    let s = l .before .before .before .before in
-    let k = s .pre .0 in
-    let e : l .loop .row ≡ s .args .s .rows = omega arith in
-    missed _ _ _ (omega (arith, cells-sound k)) (omega (arith, cells-sound k)) (λ i u. l .loop .inv .2 i (rw e (omega (arith, k .cells-are))))
+    let d = c .before .before in
+    c .first-apart .ensures
+    ∙ lowest-same _ _ _ (λ i l. part-at (for d) _ _ _ (limits d) i)
+    ∙ ap (lowest (notPart (rest d) (s d .args .table .now) (s d .args .other .now))) (cells-for (s d .pre .0))
 
 pub first-not-part-spec : {M : Type 1} → statement M
 first-not-part-spec =
     tie.close
     (tie.spec
-    Inv-loop
-    μ-loop
     (λ c κs. search needs)
-    (λ c. (omega arith, c .limits-of .ensures, λ i u. absurd (omega arith)))
-    (λ c. let l = c .before .before .before in let k = l .before .before .before .before .pre .0 in omega (arith, row-in k (l .loop .row) (omega arith), k .few-cells))
+    (λ c κs. search needs)
     (λ c κs.
-    let l = c .before .before .before .before in
-    let s = l .before .before .before .before in
-    let k = s .pre .0 in
-    let r = row-in k (l .loop .row) (omega arith) in
-    ((k .thick, (omega arith, omega arith)), (limits-under (s .pre .1 .0 .0) (l .loop .inv .1), under-less _ r (s .pre .1 .1))))
-    (λ c. let l = c .before .before .before .before .before .before .before in let k = l .before .before .before .before .pre .0 in omega (arith, row-in k (l .loop .row) (omega arith), k .few-cells))
-    returns
-    (λ c. search needs)
-    (λ c. omega arith)
-    loop-again
-    returns-2)
+    let d = c .before in
+    let p = s d .pre .1 in
+    (s d .pre .0 .sound, ((p .one .room, p .two .room), (limits-under (few d) (limits d), p .two .small))))
+    returns)

@@ -7,11 +7,12 @@ use native.Mathlib.Omega.{arith}
 use borrow.Author.Needs.{needs}
 use borrow.Author.Tests.{lt-ltb, le-ltb}
 use lib.Dec.{ltb}
-use Rattle.table.specs.Cells.{isApart}
-use Rattle.table.proofs.is_apart.Statement.{statement}
-use Rattle.table.proofs.is_apart.Tie as tie
+use Rattle.table.specs.Limits.{greatestLimit}
+use Rattle.joining.specs.Parts.{isApart}
+use Rattle.joining.proofs.is_apart.Statement.{statement}
+use Rattle.joining.proofs.is_apart.Tie as tie
 
-module _ (limit cell other wrapped : ℕ) (l : limit ≤ 16_000_000) (u : other ≤ 16_000_000) (c : cell < 4294967296) (w : wrapped < 4294967296) (is : (wrapped + other) % 2 ^ 32 ≡ cell) where
+module _ (limit cell other wrapped : ℕ) (l : limit ≤ greatestLimit) (u : other ≤ greatestLimit) (c : cell < 4294967296) (w : wrapped < 4294967296) (is : (wrapped + other) % 2 ^ 32 ≡ cell) where
   apart-is : Dec (cell < other) → ltb limit wrapped ≡ isApart limit cell other
   apart-is (yes n) = let g : limit < wrapped = omega arith in rw (lt-ltb limit wrapped g, lt-ltb cell other n)
   apart-is (no n) =

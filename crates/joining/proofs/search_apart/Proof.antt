@@ -6,10 +6,10 @@ use native.Mathlib.Omega.{arith}
 use borrow.Author.Count.{below-none, below-more}
 use borrow.Author.Needs.{needs}
 use Rattle.lists.proofs.Search.{found, missed}
-use Rattle.table.specs.Limits.{apart}
-use Rattle.table.proofs.Limits.{apart-negative, apart-above, apart-no}
-use Rattle.table.proofs.search_apart.Statement.{statement}
-use Rattle.table.proofs.search_apart.Tie as tie
+use Rattle.joining.specs.Parts.{apart}
+use Rattle.joining.proofs.Parts.{apart-negative, apart-above, apart-no}
+use Rattle.joining.proofs.search_apart.Statement.{statement}
+use Rattle.joining.proofs.search_apart.Tie as tie
 
 abbrev Inv-loop : tie.InvT-loop
 Inv-loop table other limits base width j₀ j = (j ≤ width) × ((k : ℕ) → k < j → apart limits table other base k ≡ false)

@@ -1,54 +1,72 @@
--- `take_off` meets its contract: the refusals of the two settings, and then those of `take_with`. Assumes nothing.
-use mathlib.Core.Path.{_≡_, sym, ap, _∙_, subst}
+-- `take_off` meets its contract: the refusals of `check_taking`, or every cell is rewritten; 9 not being given, none of the second is greater
+-- than the first's. Assumes nothing.
+use mathlib.Core.Path.{_≡_}
 use mathlib.Core.List.{List}
-use Prim.Native.Nat.{ℕ, _-_}
+use mathlib.Core.Option.{none}
+use Prim.Native.Nat.{ℕ, _-_, _≤_, _<_}
+use native.Mathlib.Omega.{arith}
 use borrow.Author.Needs.{needs}
-use Rattle.plate.specs.Refusal.{Told, refused, decided, after}
-use Rattle.plate.specs.declared.refusal.Reason.{Reason}
-use Rattle.plate.specs.declared.settings.Made.{Made}
-use Rattle.plate.specs.declared.settings.Made.the-variants.{Good, Bad}
+use lib.ListN.{length, getD}
+use Rattle.lists.specs.Checks.{first}
+use Rattle.lists.specs.Rewrite.{Span}
+use Rattle.lists.proofs.Spans.{span-is}
+use Rattle.plate.specs.Head.{Held, heldIn, cellsOf, SettingsFor}
 use Rattle.plate.specs.declared.settings.Settings.{Settings}
-use Rattle.plate.proofs.Decided.{decided-passed, decided-said}
-use Rattle.table.specs.declared.Tally.{Tally}
-use Rattle.table.specs.declared.Tabled.{Tabled}
-use Rattle.table.specs.declared.Tabled.the-variants.{Refused}
-use Rattle.table.specs.Tabled.{toldTable, tallyOf}
-use Rattle.table.specs.Calls.{pairChecks, Paired, takeRest, takeAnswer, taken, takeTable}
-use Rattle.table.proofs.Answers.{stop}
-use Rattle.table.proofs.take_off.Statement.{statement}
-use Rattle.table.proofs.take_off.Tie as tie
+use Rattle.plate.proofs.Calls.{judged-bad, judged-good, works}
+use Rattle.plate.proofs.Heads.{cells-for}
+use Rattle.joining.specs.Joining.{PairInOrder, taken, taking}
+use Rattle.joining.proofs.Passed.{take-passed, take-part}
+use Rattle.joining.proofs.take_off.Statement.{statement}
+use Rattle.joining.proofs.take_off.Tie as tie
 
-module _ (N T c : ℕ) (table : List ℕ) (N′ T′ c′ : ℕ) (other : List ℕ) where
-  bad : (r : Tabled) (reason : Reason) → r ≡ Refused (record { reason = reason; place = 0 }) → Paired (Bad reason) N T N′ T′
-      → (toldTable r ≡ takeAnswer N T c table N′ T′ c′ other) × (table ≡ takeTable N T c table N′ T′ c′ other)
-  unfolding takeTable takeAnswer
-  bad r reason e q = stop _ r reason 0 _ table e (decided-said (pairChecks N T N′ T′) (takeRest N T c table c′ other) (tallyOf (c - c′)) reason 0 q)
+-- every cell is rewritten
+whole : (held other : Held) (s : Settings) → SettingsFor (held .head) s → s .cells ≤ length (held .buffer) → (now : List ℕ)
+    → Span 0 0 (s .cells) (λ i x. x - getD (other .buffer) i 0) (held .buffer) now → now ≡ taken held other
+unfolding taken
+whole held other s k l now w = span-is (s .cells) (cellsOf (held .head)) w (omega (arith, cells-for k)) (omega (arith, cells-for k))
 
-  -- the answer and the table of the settings that both have
-  abbrev Takes : Settings → Tabled → List ℕ → Type 0
-  Takes s r now =
-      (toldTable r ≡ decided (takeRest (s .height) (s .members) c table c′ other) (tallyOf (c - c′)))
-      × (now ≡ after (decided (takeRest (s .height) (s .members) c table c′ other) (tallyOf (c - c′))) (taken (s .height) (s .members) table other) table)
+module _ (c : tie.After-known-told2) where
+  abbrev d : tie.After-check-taking
+  d = c .before .before .before
 
-  good : (s : Settings) (r : Tabled) (now : List ℕ) → Paired (Good s) N T N′ T′ → Takes s r now
-      → (toldTable r ≡ takeAnswer N T c table N′ T′ c′ other) × (now ≡ takeTable N T c table N′ T′ c′ other)
-  unfolding takeTable takeAnswer
-  good s r now p a =
-      let b = subst (λ (s : Settings). Takes s r now) (p .1) a in
-      let e = sym (decided-passed (pairChecks N T N′ T′) (takeRest N T c table c′ other) (tallyOf (c - c′)) (p .0)) in
-      (b .0 ∙ e, b .1 ∙ ap (λ (t : Told Tally). after t (taken N T table other) table) e)
+  abbrev s : tie.Start
+  s = d .before .before .before .before
 
-made : (c : tie.After-known-told2)
-    → Paired (Good (c .before .made2 .given .0 .0)) (c .before .before .before .before .before .before .args .height) (c .before .before .before .before .before .before .args .members) (c .before .before .before .before .before .before .args .other-height) (c .before .before .before .before .before .before .args .other-members)
-made c =
-    let s = c .before .before .before .before .before .before in
-    subst (λ (m : Made). Paired m (s .args .height) (s .args .members) (s .args .other-height) (s .args .other-members)) (c .before .made2 .given .1) (c .before .before .before .pair-of .ensures)
+  abbrev held : Held
+  held = heldIn (s .args .head) (s .args .table .now)
+
+  abbrev other : Held
+  other = heldIn (s .args .other-head) (s .args .other .now)
+
+  abbrev made : Settings
+  made = c .before .made2 .given .0 .0
+
+  passed : none ≡ first (taking held other .checks)
+  passed = judged-good (taking held other) (d .check-taking .ensures) _ (c .before .made2 .given .1)
+
+  for : SettingsFor (s .args .head) made
+  for = let g = d .check-taking .ensures .good _ (c .before .made2 .given .1) in record { is = g .0; sound = g .1 }
+
+  ready : PairInOrder held other made
+  ready = take-passed held other for passed
 
 returns : tie.Need-returns
+unfolding taking
 returns c =
-    let s = c .before .before .before .before .before .before .before in
-    bad _ _ _ _ _ _ _ _ _ (c .before .before .made .given .0 .0) (c .refused .ensures)
-    (subst (λ (m : Made). Paired m (s .args .height) (s .args .members) (s .args .other-height) (s .args .other-members)) (c .before .before .made .given .1) (c .before .before .before .before .pair-of .ensures))
+    let d = c .before .before .before in
+    let a = d .before .before .before .before .args in
+    judged-bad (taking (heldIn (a .head) (a .table .now)) (heldIn (a .other-head) (a .other .now))) (d .check-taking .ensures) _ (c .before .made .given .1)
+
+returns-2 : tie.Need-returns-2
+unfolding taking
+returns-2 c =
+    let t = c .before .before .before .before .before in
+    works (taking (held t) (other t)) _ _ (passed t) (c .without .ensures) (whole (held t) (other t) _ (for t) (ready t .one .room) _ (c .before .before .before .take-cells .ensures))
+
+take-cells-requires : tie.Need-take-cells-requires
+take-cells-requires c κs =
+    let t = c .before in
+    ((ready t .one .room, ready t .two .room), λ i l. take-part (held t) (other t) (passed t) i (omega (arith, cells-for (for t))))
 
 pub take-off-spec : {M : Type 1} → statement M
 take-off-spec =
@@ -56,9 +74,10 @@ take-off-spec =
     (tie.spec
     (λ c κs. search needs)
     (λ c. search needs)
+    (λ c. search needs)
+    take-cells-requires
     (λ c κs. search needs)
     (λ c. search needs)
-    (λ c κs. made (c .before) .2)
     returns
     (λ c. search needs)
-    (λ c. good _ _ _ _ _ _ _ _ _ (c .before .before .take-with .result) _ (made (c .before .before .before .before)) (c .before .before .take-with .ensures)))
+    returns-2)
