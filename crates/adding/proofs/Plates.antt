@@ -16,13 +16,12 @@ use Rattle.paper.specs.Limits.{mostColumns}
 use Rattle.paper.specs.Layer.{Column, allowed, share, shares}
 use Rattle.paper.specs.Table.{cells, startAt, thicknessAt, cellOf}
 use Rattle.paper.proofs.Shares.{shares-last}
-use Rattle.plate.specs.Head.{Held, heldIn, cellsOf, limitOf, headChecks}
+use Rattle.plate.specs.Head.{limitOf}
 use Rattle.plate.specs.Settings.{settingsChecks}
-use Rattle.plate.specs.declared.head.Head.{Head}
 use Rattle.plate.proofs.Heads.{few-not-full}
 use Rattle.column.specs.Order.{columnChecks}
 use Rattle.table.specs.Table.{short}
-use Rattle.table.specs.Plates.{tableOf}
+use Rattle.table.specs.Plates.{tableOf, headOf, plateHeld}
 use Rattle.table.proofs.Plates.{cell-limit, length-table, table-at}
 use Rattle.adding.specs.Adding.{addend, firstOverfull, overfullCell, addRest, added, adding}
 use Rattle.adding.proofs.Passed.{overfull-fine}
@@ -36,13 +35,6 @@ cell-last T columns column i = go (allowed T (thicknessAt T i))
         ≡ cond b (shares (columns ++ (column ∷ [])) (startAt T i) (thicknessAt T i)) 0
     go true = let e = shares-last columns column (startAt T i) (thicknessAt T i) in omega arith
     go false = refl
-
--- the table of a plate's columns, and what goes with it
-abbrev pub headOf : ℕ → ℕ → List Column → Head
-headOf N T columns = record { height = N; members = T; columns = length columns }
-
-abbrev pub plateHeld : ℕ → ℕ → List Column → List ℕ → Held
-plateHeld N T columns old = heldIn (headOf N T columns) (tableOf N T columns old)
 
 module _ (N T : ℕ) (columns : List Column) (column : Column) (old : List ℕ) where
   pub added-is : added (plateHeld N T columns old) column ≡ tableOf N T (columns ++ (column ∷ [])) old

@@ -13,12 +13,12 @@ use Rattle.lists.specs.Checks.{first}
 use Rattle.lists.proofs.Checks.{first-none, first-later, first-passed}
 use Rattle.lists.proofs.Search.{lowest-none, lowest-before}
 use Rattle.paper.specs.Layer.{tmax}
-use Rattle.paper.specs.Table.{thicknessAt, InBounds}
+use Rattle.paper.specs.Table.{thicknessAt}
 use Rattle.plate.specs.Head.{Held, isOver, cellsOf, limitOf, headChecks, SettingsFor}
 use Rattle.plate.specs.declared.settings.Settings.{Settings}
 use Rattle.plate.proofs.Heads.{cells-for, few-not-over}
 use Rattle.table.specs.Cells.{outOfBounds, firstOut}
-use Rattle.table.specs.Table.{short, outCell, boundChecks, tableRest, tableChecks, InOrder}
+use Rattle.table.specs.Table.{short, outCell, boundChecks, tableRest, tableChecks, Bounded, InOrder}
 use Rattle.table.proofs.Cells.{greatest-for}
 use Rattle.table.proofs.Limits.{limit-le}
 
@@ -77,11 +77,16 @@ module _ (held : Held) where
       (λ i l. le-ltb (limitOf (held .head) (thicknessAt (held .head .members) i)) (getD (held .buffer) i 0) (w i l))
 
   -- a table in bounds passes 7 and 6
-  pub bounds-fine : InBounds (held .head .height) (held .head .members) (held .head .columns) (held .buffer) → first (boundChecks held) ≡ none
+  pub bounds-fine : Bounded held → first (boundChecks held) ≡ none
   unfolding boundChecks outCell limitOf
   bounds-fine b =
       let e = out-fine (b .bounded) in
       simp (few-not-over (held .head) (b .columns), e, le-ltb (cellsOf (held .head)) (cellsOf (held .head)) (omega arith))
+
+  -- and 6 alone
+  pub cells-fine : Bounded held → outCell held .holds ≡ false
+  unfolding outCell limitOf
+  cells-fine b = let e = out-fine (b .bounded) in simp (e, le-ltb (cellsOf (held .head)) (cellsOf (held .head)) (omega arith))
 
   -- where 1, 2 and 3 passed, asking the table asks 7 and 6
   pub table-asks : first (headChecks (held .head)) ≡ none → cellsOf (held .head) ≤ length (held .buffer)
@@ -94,3 +99,7 @@ module _ (held : Held) where
       → first (tableChecks held) ≡ first (outCell held ∷ [])
   unfolding boundChecks
   table-asks-cells fine room few = table-asks fine room ∙ simp few
+
+  -- a whole table in bounds passes all of them
+  pub table-fine : first (headChecks (held .head)) ≡ none → Bounded held → first (tableChecks held) ≡ none
+  table-fine fine b = table-asks fine (b .size) ∙ bounds-fine b

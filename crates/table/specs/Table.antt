@@ -8,7 +8,7 @@ use lib.Dec.{ltb}
 use lib.ListN.{length, getD}
 use Rattle.lists.specs.Checks.{Check}
 use Rattle.lists.specs.Rewrite.{rewritten}
-use Rattle.paper.specs.Table.{cells, thicknessAt}
+use Rattle.paper.specs.Table.{cells, thicknessAt, InBounds}
 use Rattle.plate.specs.Refusal.{Told, Numbered, check}
 use Rattle.plate.specs.Settings.{settingsChecks}
 use Rattle.plate.specs.Call.{Call, answerOf, leftBy}
@@ -36,6 +36,10 @@ tableRest held = short held 1 ∷ boundChecks held
 
 unfoldable pub tableChecks : Held → List (Check Numbered)
 tableChecks held = headChecks (held .head) ++ tableRest held
+
+-- the cells are in bounds for what goes with them
+abbrev pub Bounded : Held → Type 0
+Bounded held = InBounds (held .head .height) (held .head .members) (held .head .columns) (held .buffer)
 
 -- what is known of a table that passed them
 pub record InOrder (held : Held) (s : Settings) : Type 0 where
