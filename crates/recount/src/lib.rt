@@ -1,6 +1,6 @@
 // Recounting a given sequence over a table.
 ghost use mathlib.Core.Path.{_≡_};
-ghost use Prim.Native.Nat.{_+_, _<_, _≤_};
+ghost use Prim.Native.Nat.{_+_, _<_};
 ghost use lib.ListN.{length};
 ghost use Rattle.paper.specs.Sequence.{_!_};
 ghost use Rattle.plate.specs.Call.{Does};

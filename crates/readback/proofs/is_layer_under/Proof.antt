@@ -1,6 +1,6 @@
 -- `is_layer_under` meets its contract: a layer that would start under the lowest row has not the shape of one, and else the row where it starts
 -- tells. Assumes nothing.
-use Prim.Native.Nat.{ℕ, _+_, _-_, _<_, _≤_}
+use Prim.Native.Nat.{ℕ, _-_}
 use mathlib.Core.Path.{_≡_, sym, ap, _∙_}
 use native.Mathlib.Omega.{arith}
 use borrow.Author.Needs.{needs}
