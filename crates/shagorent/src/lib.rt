@@ -257,12 +257,7 @@ pub extern "C" fn shagorent_read_back(
 }
 
 #[no_mangle]
-pub extern "C" fn shagorent_recount(
-    table: &[u32],
-    head: Head,
-    bound: u32,
-    sequence: &[i32],
-) -> Reply
+pub extern "C" fn shagorent_recount(table: &[u32], head: Head, bound: u32, sequence: &[i32]) -> Reply
     ensures { λ r. ⌜ r ≡ reply (recountAnswer (heldIn head (now (table .entry))) bound (now (sequence .entry))) ⌝ }
 {
     reply_of(recount(table, head, bound, sequence))
