@@ -1,5 +1,5 @@
 -- Document 01's limits, each by its name: the number stands here and nowhere else. Assumes nothing.
-use Prim.Native.Nat.{ℕ, _*_, _/_}
+use Prim.Native.Nat.{ℕ}
 
 -- 'Height is at least 1 and at most 512 units'
 abbrev pub leastHeight : ℕ
@@ -19,7 +19,3 @@ mostBoundaries = 64
 -- 'With a table goes its column count c, at most 1,000,000'
 abbrev pub mostColumns : ℕ
 mostColumns = 1_000_000
-
--- and what follows: a cell in bounds is at most half of the greatest thickness for each column
-abbrev pub greatestCell : ℕ
-greatestCell = mostColumns * (mostThickness / 2)

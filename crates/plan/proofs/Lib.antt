@@ -3,3 +3,4 @@ pub mod Rows
 pub mod Putting
 pub mod Relaxing
 pub mod Listing
+pub mod Passed

@@ -23,7 +23,7 @@ use Rattle.sequence.specs.Sheets.{mark, unmark}
 use Rattle.sequence.proofs.BestTo.{kept, taken, left}
 use Rattle.sequence.proofs.Bounds.{least-few, least-many}
 use Rattle.sequence.proofs.Marks.{Small, unmark-mark}
-use Rattle.sheets.specs.Cells.{cellFrom}
+use Rattle.table.specs.Cells.{cellFrom}
 use Rattle.sheets.proofs.Places.{row-in}
 use Rattle.plan.specs.Planning.{greatestError, Ready, planRules, tableRules}
 use Rattle.plan.specs.Putting.{sumAt, betterError, betterThickness, PutOn, Placed}

@@ -7,11 +7,10 @@ use mathlib.Core.List.{List}
 use mathlib.Core.Option.{Option, none, some}
 use native.Mathlib.Omega.{arith}
 use lib.Dec.{leb}
-use Rattle.paper.specs.Limits.{greatestCell}
 use Rattle.paper.specs.Sheets.{missing}
 use Rattle.paper.specs.Table.{cellIndex}
 use Rattle.paper.proofs.Thicknesses.{and-true, allowed-from, allowed-tmax, tmin-least}
-use Rattle.plate.specs.Datum.{rowOf, atRow}
+use Rattle.plate.specs.Datum.{rowOf}
 use Rattle.plate.specs.declared.settings.Settings.{Settings}
 use Rattle.sequence.specs.Sequence.{Rules, Layer}
 use Rattle.sequence.specs.Least.{via, least}
@@ -20,8 +19,9 @@ use Rattle.sequence.proofs.Bounds.{least-bound}
 use Rattle.sequence.proofs.Layers.{shape-allowed, shape-from, shape-to}
 use Rattle.sequence.proofs.Least.{via-some}
 use Rattle.sequence.proofs.Marks.{Small}
-use Rattle.sheets.specs.Cells.{cellFrom}
-use Rattle.sheets.proofs.Layers.{cell-in, cell-row}
+use Rattle.table.specs.Cells.{cellFrom}
+use Rattle.table.specs.Limits.{greatestLimit}
+use Rattle.table.proofs.Cells.{cell-in, cell-read}
 use Rattle.plan.specs.Planning.{Ready, planRules, tableRules}
 
 small : (o : Option ℕ) → ((e : ℕ) → o ≡ some e → e < missing) → Small o
@@ -37,22 +37,22 @@ module _ (s : Settings) (bound : ℕ) (table : List ℕ) (ready : Ready s table)
   unfolding planRules
   shape-of h t e = and-true (shape (s .height) (s .members) h t) (leb (cellFrom (s .members) table h t) bound) e .0
 
-  cell-small : (h t : ℕ) → p .may h t ≡ true → p .cell h t ≤ greatestCell
+  cell-small : (h t : ℕ) → p .may h t ≡ true → p .cell h t ≤ greatestLimit
   unfolding planRules
   cell-small h t e =
       let r = ready .sound in
       let f = shape-of h t e in
       let a = shape-allowed _ _ h t f in
       let row = rowOf (s .tmax) h in
-      let b : atRow (s .tmax) row ≡ h = omega (arith, shape-from _ _ h t f, r .greatest) in
-      let i = cell-in s r row t (omega (arith, shape-from _ _ h t f, shape-to _ _ h t f, allowed-from _ t a, r .greatest, r .rows-are)) (allowed-from _ t a) (omega (arith, allowed-tmax _ t a, r .greatest)) in
-      rw (← b) (rw (← cell-row s r table row t) (ready .small (cellIndex (s .tmax) row t) i))
+      let i =
+      cell-in r row (omega (arith, shape-from _ _ h t f, shape-to _ _ h t f, allowed-from _ t a, r .greatest, r .rows-are)) (t - 1) (omega (arith, allowed-from _ t a, allowed-tmax _ t a, r .greatest)) in
+      omega (arith, ready .small .are (cellIndex (s .tmax) row t) i, cell-read (s .members) (s .tmax) table row h t (r .greatest) refl)
 
   pub layer-thick : (h t : ℕ) → Layer p h t → s .tmin ≤ t
   layer-thick h t l = omega (arith, ready .sound .least, tmin-least _ t (shape-allowed _ _ (h - t) t (shape-of (h - t) t (l .allowed))) .1)
 
-  pub sum-most : (m h e : ℕ) → least p m h ≡ some e → e ≤ m * greatestCell
-  sum-most m h e q = least-bound p greatestCell (λ g t l. cell-small (g - t) t (l .allowed)) m h e q
+  pub sum-most : (m h e : ℕ) → least p m h ≡ some e → e ≤ m * greatestLimit
+  sum-most m h e q = least-bound p greatestLimit (λ g t l. cell-small (g - t) t (l .allowed)) m h e q
 
   pub least-small : (m h : ℕ) → m ≤ s .counts → Small (least p m h)
   least-small m h l = small (least p m h) (λ e q. omega (arith, sum-most m h e q, ready .sound .few-counts))

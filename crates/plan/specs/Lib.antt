@@ -1,3 +1,4 @@
 pub mod Planning
 pub mod Putting
 pub mod Rows
+pub mod Plan

@@ -1,9 +1,8 @@
 -- What a plan fills over a table: the rules that the table's cells give, the two sheets, and the list. Assumes nothing.
-use Prim.Native.Nat.{ℕ, _+_, _*_, _≤_, _<_}
+use Prim.Native.Nat.{ℕ, _+_, _*_, _≤_}
 use mathlib.Core.List.{List}
-use lib.ListN.{length, getD}
+use lib.ListN.{length}
 use Rattle.lists.specs.Rewrite.{rewritten}
-use Rattle.paper.specs.Limits.{greatestCell}
 use Rattle.paper.specs.Sequence.{M}
 use Rattle.paper.specs.Sheets.{entries}
 use Rattle.plate.specs.Settings.{Sound, mostCounts}
@@ -12,7 +11,8 @@ use Rattle.sequence.specs.Sequence.{Rules}
 use Rattle.sequence.specs.Least.{leastOf}
 use Rattle.sequence.specs.Rules.{rules}
 use Rattle.sequence.specs.Sheets.{mark, errorEntry, thicknessEntry}
-use Rattle.sheets.specs.Cells.{cellFrom}
+use Rattle.table.specs.Cells.{cellFrom}
+use Rattle.table.specs.Limits.{greatestLimit, UnderGreatest}
 
 -- the rules that a table is planned by
 unfoldable pub planRules : ℕ → ℕ → ℕ → List ℕ → Rules
@@ -32,12 +32,12 @@ plannedThicknesses N T p old = rewritten (λ i x. thicknessEntry N T p i) (entri
 unfoldable pub plannedList : ℕ → ℕ → Rules → List ℕ → List ℕ
 plannedList N T p old = rewritten (λ i x. mark (leastOf p (i + 1))) (M N T) old
 
--- what planning needs of a table: it is whole, and its cells are in bounds, so that no sum leaves an entry
+-- what planning needs of a table: it is whole, and its cells are small enough that no sum leaves an entry
 pub record Ready (s : Settings) (table : List ℕ) : Type 0 where
   pub sound : Sound s
   pub size : s .cells ≤ length table
-  pub small : (i : ℕ) → i < s .cells → getD table i 0 ≤ greatestCell
+  pub small : UnderGreatest (s .cells) table
 
 -- the greatest error that a sequence can then have
 abbrev pub greatestError : ℕ
-greatestError = mostCounts * greatestCell
+greatestError = mostCounts * greatestLimit

@@ -4,23 +4,33 @@ ghost use Prim.Native.Nat.{ℕ, _+_, _-_, _*_, _<_, _≤_};
 ghost use lib.ListN.{length};
 ghost use Rattle.lists.specs.Rewrite.{Span};
 ghost use Rattle.paper.specs.Sheets.{rowStart, entryIndex, missing};
+ghost use Rattle.plate.specs.Call.{Does};
 ghost use Rattle.plate.specs.Datum.{atRow};
-ghost use Rattle.plate.specs.Settings.{Sound};
+ghost use Rattle.plate.specs.Head.{heldIn, SettingsFor};
+ghost use Rattle.plate.specs.Refusal.{told};
+ghost use Rattle.plate.specs.Settings.{Sound, Judges};
 ghost use Rattle.sequence.specs.Least.{plus};
 ghost use Rattle.sequence.specs.Sheets.{mark, unmark};
-ghost use Rattle.sheets.specs.Cells.{cellFrom};
+ghost use Rattle.table.specs.Cells.{cellFrom};
 ghost use Rattle.sheets.specs.Entries.{leastEnd};
 ghost use Rattle.sheets.specs.Least.{IsLeast};
+ghost use Rattle.plan.specs.Plan.{planRest, planChecks, planning, sheetsIn};
 ghost use Rattle.plan.specs.Planning.{greatestError, Ready, tableRules, plannedErrors, plannedThicknesses, plannedList};
 ghost use Rattle.plan.specs.Putting.{Placed, PutOn};
 ghost use Rattle.plan.specs.Rows.{RowTo, Under, Permitted, Planned};
+use plate::head::Head;
+use plate::refusal::Answer;
+use plate::refusal::Reason;
+use plate::refusal::refusal_at;
+use plate::settings::Made;
 use plate::settings::Settings;
 use sheets::Least;
 use sheets::NONE;
-use sheets::cell_at;
 use sheets::entry_index;
 use sheets::is_layer;
 use sheets::least_end;
+use table::cell_of;
+use table::check_table;
 
 // Where the entry of the row q and the count m stands.
 fn entry_of(s: Settings, q: usize, m: usize) -> usize
@@ -32,12 +42,12 @@ fn entry_of(s: Settings, q: usize, m: usize) -> usize
 }
 
 // The cell of the layer from row `start` of thickness t.
-fn cell_of(table: &[u32], s: Settings, start: usize, t: usize) -> u32
+fn layer_cell(table: &[u32], s: Settings, start: usize, t: usize) -> u32
     requires { ⌜ Sound s ⌝ }
     requires { ⌜ (start ≤ s .rows) × (t ≤ s .tmax) ⌝ }
     ensures { λ r. ⌜ r ≡ cellFrom (s .members) (now (table .entry)) (atRow (s .tmax) start) t ⌝ }
 {
-    cell_at(table, s.tmax as u32, start as u32, t as u32)
+    cell_of(table, s.tmax as u32, start as u32, t as u32)
 }
 
 // Whether a layer from row `start` of thickness t is permitted.
@@ -49,7 +59,7 @@ fn may_use(table: &[u32], s: Settings, bound: u32, start: usize, t: usize) -> bo
     if !is_layer(s, start, t) {
         return false;
     }
-    cell_of(table, s, start, t) <= bound
+    layer_cell(table, s, start, t) <= bound
 }
 
 // An entry with a layer's error more, and none where there is none: only none and an error above 0 come to more than the greatest entry.
@@ -241,7 +251,7 @@ fn relax(
     let start = q - t;
     let from = entry_of(s, start, first);
     let to = entry_of(s, q, first) + 1;
-    let cell = cell_of(table, s, start, t);
+    let cell = layer_cell(table, s, start, t);
     let end = end_count(s, start);
     put_all(errors, thicknesses, from, to, cell, t, end - first);
 }
@@ -352,4 +362,63 @@ fn plan_sheets(
 {
     fill_sheets(table, s, bound, errors, thicknesses);
     fill_list(table, s, bound, errors, list);
+}
+
+// Where the settings are in order: 3 (table, error sheet, thickness sheet, list), by the lengths of the last three, 7, 6.
+fn check_rest(
+    table: &[u32],
+    head: Head,
+    s: Settings,
+    errors: usize,
+    thicknesses: usize,
+    list: usize,
+) -> Made
+    requires { ⌜ SettingsFor head s ⌝ }
+    ensures { λ r. ⌜ Judges r (planRest (heldIn head (now (table .entry))) errors thicknesses list) (head .height) (head .members) ⌝ }
+{
+    if table.len() < s.cells {
+        return Made::Bad(refusal_at(Reason::ShortBuffer, 1));
+    }
+    if errors < s.entries {
+        return Made::Bad(refusal_at(Reason::ShortBuffer, 2));
+    }
+    if thicknesses < s.entries {
+        return Made::Bad(refusal_at(Reason::ShortBuffer, 3));
+    }
+    if list < s.counts {
+        return Made::Bad(refusal_at(Reason::ShortBuffer, 4));
+    }
+    check_table(table, head)
+}
+
+// 1, 2, 3, 7, 6.
+fn check_plan(table: &[u32], head: Head, errors: usize, thicknesses: usize, list: usize) -> Made
+    ensures { λ r. ⌜ Judges r (planChecks (heldIn head (now (table .entry))) errors thicknesses list) (head .height) (head .members) ⌝ }
+{
+    let made = Settings::new(head.height, head.members);
+    match made {
+        Made::Bad(refusal) => Made::Bad(refusal),
+        Made::Good(s) => check_rest(table, head, s, errors, thicknesses, list),
+    }
+}
+
+// Document 01, 'Plan': 1, 2, 3 (table, error sheet, thickness sheet, list), 7, 6.
+pub fn plan(
+    table: &[u32],
+    head: Head,
+    bound: u32,
+    errors: &mut [u64],
+    thicknesses: &mut [u8],
+    list: &mut [u64],
+) -> Answer
+    ensures { λ r. ⌜ Does (planning (heldIn head (now (table .entry))) bound (sheetsIn (errors .entry) (thicknesses .entry) (list .entry))) (told r) (sheetsIn (errors .exit) (thicknesses .exit) (list .exit)) ⌝ }
+{
+    let made = check_plan(table, head, errors.len(), thicknesses.len(), list.len());
+    match made {
+        Made::Bad(refusal) => Answer::Refused(refusal),
+        Made::Good(s) => {
+            plan_sheets(table, s, bound, errors, thicknesses, list);
+            Answer::Done(s.counts as u64)
+        }
+    }
 }

@@ -127,7 +127,7 @@ module _ (N T : ℕ) (errors thicknesses : List ℕ) (n : ℕ) (out : List ℤ) 
     unfolding reading entryChecks
     good-walk x new i w l =
         let q : none ≡ first (entryChecks N T errors thicknesses n) = simp (e, walk-is, w) in
-        rw i (works (reading N T errors thicknesses n out) new (q ∙ rest-is) (l ∙ rw at))
+        works (reading N T errors thicknesses n out) x new (q ∙ rest-is) i (l ∙ rw at)
 
 -- 1, 2 and the checks on the room
 module _ {N T : ℕ} (errors thicknesses : List ℕ) (n : ℕ) (out : List ℤ) {made : Made} (j : Judges made (roomChecks N T (length errors) (length thicknesses) n (length out)) N T) where

@@ -1,3 +1,3 @@
-pub mod Cells
+pub mod Layers
 pub mod Entries
 pub mod Least

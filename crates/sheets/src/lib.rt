@@ -1,11 +1,10 @@
-// What planning, reading back and recounting share: where a cell and an entry stand, whether a layer has the shape of one, the entry that
+// What planning, reading back and recounting share: whether a layer has the shape of one, where an entry of a sheet stands, the entry that
 // stands for none, and the least of some entries.
 ghost use mathlib.Core.Path.{_≡_};
-ghost use Prim.Native.Nat.{_-_, _<_};
+ghost use Prim.Native.Nat.{_<_};
 ghost use lib.ListN.{getD};
 ghost use Rattle.paper.specs.Sheets.{entryIndex, missing};
-ghost use Rattle.paper.specs.Table.{cellIndex};
-ghost use Rattle.sheets.specs.Cells.{isLayer};
+ghost use Rattle.sheets.specs.Layers.{isLayer};
 ghost use Rattle.sheets.specs.Entries.{leastFrom, leastEnd};
 ghost use Rattle.sheets.specs.Least.{IsLeast};
 use plate::settings::Settings;
@@ -18,27 +17,6 @@ pub const NONE: u64 = 18446744073709551615;
 pub struct Least {
     pub error: u64,
     pub place: usize,
-}
-
-// One less than t, and 0 for 0.
-fn one_less(t: u32) -> u32
-    ensures { λ r. ⌜ r ≡ t - 1 ⌝ }
-{
-    if t == 0 {
-        return 0;
-    }
-    t - 1
-}
-
-// The cell of a row and a thickness t, where a row is tmax cells; 0 past the table's end.
-pub fn cell_at(table: &[u32], tmax: u32, row: u32, t: u32) -> u32
-    ensures { λ r. ⌜ r ≡ getD (now (table .entry)) (cellIndex tmax row t) 0 ⌝ }
-{
-    let at = row as usize * tmax as usize + one_less(t) as usize;
-    if table.len() <= at {
-        return 0;
-    }
-    table[at]
 }
 
 // Where the entry of a row and a count m stands in a sheet of counts up to `most`.

@@ -13,7 +13,7 @@ use lib.IntN.{ℤ, pos, negsuc, _+ℤ_, _-ℤ_, +ℤ-comm}
 use lib.ListN.{getD}
 use Rattle.paper.specs.Limits.{mostThickness}
 use Rattle.paper.specs.Layer.{tmax}
-use Rattle.paper.specs.Table.{rows, cells, startAt, thicknessAt, natural, cellAt}
+use Rattle.paper.specs.Table.{rows, cells, cellIndex, startAt, thicknessAt, natural, cellAt}
 use Rattle.paper.proofs.Thicknesses.{tmax-le}
 use Rattle.plate.specs.Datum.{datum, heightOf, rowOf, atRow}
 use Rattle.plate.specs.Head.{limitOf, SettingsFor}
@@ -22,7 +22,7 @@ use Rattle.plate.specs.declared.head.Head.{Head}
 use Rattle.plate.specs.declared.settings.Settings.{Settings}
 use Rattle.plate.proofs.Datum.{neg-height, sum-height, natural-sub}
 use Rattle.plate.proofs.Heads.{members-for}
-use Rattle.table.specs.Cells.{cellIndex, cellFrom, outOfBounds}
+use Rattle.table.specs.Cells.{cellFrom, outOfBounds}
 use Rattle.table.specs.Limits.{Limits, NoneAbove, above, aboveAt}
 
 module _ (T m r j : ℕ) (e : m ≡ tmax T) (l : j < m) where

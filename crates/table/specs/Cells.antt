@@ -1,20 +1,16 @@
--- The cells of a table one by one: the index and the cell of a layer; and, named by their index as document 01's refusals name them, which
+-- The cells of a table one by one: the cell of a layer; and, named by their index as document 01's refusals name them, which
 -- are out of bounds. Assumes nothing.
-use Prim.Native.Nat.{ℕ, _+_, _-_, _*_}
+use Prim.Native.Nat.{ℕ}
 use mathlib.Core.Bool.{Bool}
 use mathlib.Core.List.{List}
 use lib.Dec.{ltb}
 use lib.ListN.{getD}
 use Rattle.lists.specs.Search.{lowest}
 use Rattle.paper.specs.Layer.{tmax}
-use Rattle.paper.specs.Table.{thicknessAt}
+use Rattle.paper.specs.Table.{cellIndex, thicknessAt}
 use Rattle.plate.specs.Datum.{rowOf}
 use Rattle.plate.specs.Head.{Held, cellsOf, limitOf}
 use Rattle.plate.specs.declared.head.Head.{Head}
-
--- thickness running fastest: the index of the cell of a row and a thickness
-abbrev pub cellIndex : ℕ → ℕ → ℕ → ℕ
-cellIndex tmax row t = row * tmax + (t - 1)
 
 -- the cell of the layer from the datum height h of thickness t
 unfoldable pub cellFrom : ℕ → List ℕ → ℕ → ℕ → ℕ

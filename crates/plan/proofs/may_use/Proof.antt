@@ -7,8 +7,8 @@ use borrow.Author.Needs.{needs}
 use borrow.Author.Tests.{not-true, not-false}
 use lib.Dec.{leb}
 use Rattle.sequence.specs.Rules.{shape}
-use Rattle.sheets.specs.Cells.{cellFrom}
 use Rattle.sheets.proofs.Layers.{shape-row}
+use Rattle.table.specs.Cells.{cellFrom}
 use Rattle.plan.specs.Planning.{planRules}
 use Rattle.plan.proofs.may_use.Statement.{statement}
 use Rattle.plan.proofs.may_use.Tie as tie
@@ -32,7 +32,7 @@ returns-2 : tie.Need-returns-2
 returns-2 c =
     let i = c .before .before in
     let s = i .before .before in
-    within _ _ _ _ _ _ _ (sym (shape-row (s .args .s) (s .pre .0) _ _) ∙ sym (i .is-layer .ensures) ∙ not-false _ (c .before .if1 .left)) (c .cell-of .ensures)
+    within _ _ _ _ _ _ _ (sym (shape-row (s .args .s) (s .pre .0) _ _) ∙ sym (i .is-layer .ensures) ∙ not-false _ (c .before .if1 .left)) (c .layer-cell .ensures)
 
 pub may-use-spec : {M : Type 1} → statement M
 may-use-spec = tie.close (tie.spec (λ c κs. search needs) returns (λ c κs. search needs) returns-2)

@@ -16,7 +16,7 @@ module _ (c : tie.After-end-count) where
   s = c .before .before .before .before .before .before .before
 
   found : Relaxing (s .args .table .now) (s .args .bound) (s .args .q) (s .args .t) (s .args .errors .now) (s .args .thicknesses .now)
-      (s .args .first) (c .end-count .result) (c .before .before .before .entry-of .result) (c .before .before .entry-of2 .result + 1) (c .before .cell-of .result) (s .args .s)
+      (s .args .first) (c .end-count .result) (c .before .before .before .entry-of .result) (c .before .before .entry-of2 .result + 1) (c .before .layer-cell .result) (s .args .s)
   found = record {
     ready = s .pre .0;
     under = s .pre .1 .0;
@@ -27,7 +27,7 @@ module _ (c : tie.After-end-count) where
     end-past = c .end-count .ensures .1;
     from-is = c .before .before .before .entry-of .ensures .0;
     to-is = ap (λ i. i + 1) (c .before .before .entry-of2 .ensures .0);
-    cell-is = c .before .cell-of .ensures;
+    cell-is = c .before .layer-cell .ensures;
   }
 
 whole : tie.Need-returns

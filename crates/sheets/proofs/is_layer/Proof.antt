@@ -9,7 +9,7 @@ use borrow.Author.Tests.{not-true, not-false, le-leb, lt-leb}
 use lib.Dec.{leb}
 use Rattle.paper.specs.Layer.{allowed}
 use Rattle.plate.specs.declared.settings.Settings.{Settings}
-use Rattle.sheets.specs.Cells.{isLayer}
+use Rattle.sheets.specs.Layers.{isLayer}
 use Rattle.sheets.proofs.Layers.{barred, ends-high, fits}
 use Rattle.sheets.proofs.is_layer.Statement.{statement}
 use Rattle.sheets.proofs.is_layer.Tie as tie
