@@ -54,7 +54,7 @@ pub fn named(random: &mut Random, plate: Plate) -> (u32, u32) {
     }
 }
 
-/// A table's head as a caller might hand it in: its settings named so.
+/// A table's head as a caller might hand it in: its column count, and mostly its own settings.
 pub fn named_head(random: &mut Random, plate: Plate, head: Head) -> Head {
     let (height, set) = named(random, plate);
     Head { height, set, ..head }

@@ -75,25 +75,28 @@ fn add_column(random: &mut Random) -> Outcome {
     let plate = make::plate(random, size);
     let mut table = make::table(random, plate, size);
     make::damage_table(random, plate, &mut table);
-    let head = make::named_head(random, plate, table.head);
+    let mut head = make::named_head(random, plate, table.head);
     let length = make::length(random, plate.cells());
     let mut expected = Lent::new(random, &table.cells, length);
     let column = make::handed_column(random, plate);
     let column = Lent::given(random, &column);
-    added(&mut expected.clone(), &mut expected, head, &column)
+    added(&mut expected.clone(), &mut expected, &mut head, &column)
 }
 
-/// Adds to both tables and compares.
-pub fn added(actual: &mut Lent<u32>, expected: &mut Lent<u32>, head: Head, column: &Lent<u16>) -> Outcome {
+/// Adds to both tables and compares; where the column was added, the head is then the one that the library answered.
+pub fn added(actual: &mut Lent<u32>, expected: &mut Lent<u32>, head: &mut Head, column: &Lent<u16>) -> Outcome {
     let handed = column.clone();
-    let before = expected.clone();
-    let answer = library::as_tabled(plain::add_column(expected.part_mut(), head, column.part()));
-    let library = library::add_column(actual.part_mut(), head, handed.part());
+    let (before, head_before) = (expected.clone(), *head);
+    let answer = library::as_tabled(plain::add_column(expected.part_mut(), head_before, column.part()));
+    let library = library::add_column(actual.part_mut(), head_before, handed.part());
+    if library.number == 0 {
+        *head = library.head;
+    }
     let difference = same(answer, library)
         .and_then(|()| actual.agrees("table", expected))
         .and_then(|()| handed.agrees("column", column));
     told(difference, answer.number, || {
-        format!("{}, column {}, table {}", head_text(head), column.text(), before.text())
+        format!("{}, column {}, table {}", head_text(head_before), column.text(), before.text())
     })
 }
 

@@ -39,7 +39,7 @@ fn columns(random: &mut Random, note: &mut impl FnMut(Outcome) -> Result<(), Str
         for list in lists {
             let column = Lent::given(random, &list);
             for columns in [0, 1, 999_999, 1_000_000, 1_000_001, u32::MAX] {
-                note(added(&mut table.clone(), &mut table.clone(), plate.head(columns), &column))?;
+                note(added(&mut table.clone(), &mut table.clone(), &mut plate.head(columns), &column))?;
             }
             for start in -33..=height as i32 + 32 {
                 for thickness in [0, 1, 2, 31, 32, 33] {

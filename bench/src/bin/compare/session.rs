@@ -32,14 +32,13 @@ fn group(random: &mut Random, plate: Plate, most: u64) -> Result<Group, String> 
     let mut expected = Lent::random(random, plate.cells());
     let mut actual = expected.clone();
     let answer = library::as_tabled(plain::clear_table(expected.part_mut(), height, set));
-    let difference = same(answer, library::clear_table(actual.part_mut(), height, set));
-    told(difference, 0, || format!("height {height}, set {set:#x}"))?;
-    let mut group = Group { expected, actual, head: answer.head };
+    let library = library::clear_table(actual.part_mut(), height, set);
+    told(same(answer, library), 0, || format!("height {height}, set {set:#x}"))?;
+    let mut group = Group { expected, actual, head: library.head };
     for _ in 0..random.below(most + 1) {
         let column = make::column(random, plate.height);
         let column = Lent::given(random, &column);
-        added(&mut group.actual, &mut group.expected, group.head, &column)?;
-        group.head.columns += 1;
+        added(&mut group.actual, &mut group.expected, &mut group.head, &column)?;
     }
     Ok(group)
 }
@@ -51,7 +50,8 @@ fn together(first: &mut Group, second: &Group, calls: Joining) -> Outcome {
     let difference = same(library::as_tabled(answer), library)
         .and_then(|()| first.actual.agrees("first table", &first.expected))
         .and_then(|()| second.actual.agrees("second table", &second.expected));
-    first.head = answer.map_err(|refusal| format!("a good session met {refusal:?}"))?;
+    answer.map_err(|refusal| format!("a good session met {refusal:?}"))?;
+    first.head = library.head;
     told(difference, 0, || format!("{}; {}", head_text(head), head_text(other_head)))
 }
 
