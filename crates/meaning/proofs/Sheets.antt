@@ -97,7 +97,7 @@ module _ (p : Plate) (bound : ℕ) where
   ending-up h ts b =
       ending-of (upFrom h ts []) (length ts) (heightOf h) (standing h ts [] b tt) (let e = length-up h ts [] in omega arith) (place-top h ts [])
 
-  -- ---- and back
+  -- ---- from the boundaries down to the layers
 
   module _ (m : ℕ) (zs : List ℤ) (a : Stack p bound zs m) (low : zs ! m <ℤ pos (p .N + tmax (p .T))) where
     pub built-at : (k : ℕ) → k ≤ m → (h : ℕ) → zs ! k ≡ heightOf h

@@ -54,7 +54,7 @@ module _ (N T : ℕ) (z : ℤ) (t : ℕ) (u : Usable N T z t) where
       let high = lt-down (datum z + t) (N + tmax T + 32) (rw (pos-height (N + tmax T), at-datum, sum-height (datum z) t) at (u .to)) in
       digits-lt (omega (arith, row-is, digit, allowed-from T t (u .member))) digit
 
-  -- and back from the index
+  -- the start and the thickness come back from the index
   start-back : startAt T (index T z t) ≡ z
   unfolding startAt
   start-back =

@@ -24,7 +24,7 @@ pub record Sheets : Type 0 where
 abbrev pub sheetsOf : List ℕ → List ℕ → List ℕ → Sheets
 sheetsOf errors thicknesses leasts = record { errors = errors; thicknesses = thicknesses; leasts = leasts }
 
--- the same, as three buffers hold them
+-- what three buffers hold, as sheets and list
 abbrev pub sheetsIn : RefT (List ℕ) → RefT (List ℕ) → RefT (List ℕ) → Sheets
 sheetsIn errors thicknesses leasts = sheetsOf (now errors) (now thicknesses) (now leasts)
 

@@ -29,11 +29,11 @@ pub record PutOn (from to cell t n : ℕ) (errors-before thicknesses-before erro
   pub errors-are : Span 0 to n (λ m x. betterError (sumAt errors-before cell (from + m)) x) errors-before errors
   pub thicknesses-are : Span 0 to n (λ m x. betterThickness (sumAt errors-before cell (from + m)) (getD errors-before (to + m) 0) t x) thicknesses-before thicknesses
 
--- the places of n counts lie in sheets of these lengths, and what is read lies before what is written
+-- what is read, n entries from `from` on, lies before what is written, those from `to` on, and that in sheets of these lengths
 unfoldable pub fits : ℕ → ℕ → ℕ → ℕ → ℕ → Bool
 fits from to n errors thicknesses = leb (from + n) to && (leb (to + n) errors && leb (to + n) thicknesses)
 
--- the same of two sheets
+-- the places of n counts lie so in two sheets
 pub record Placed (from to n : ℕ) (errors thicknesses : List ℕ) : Type 0 where
   pub apart : from + n ≤ to
   pub errors-long : to + n ≤ length errors

@@ -135,7 +135,7 @@ module _ {N T : ℕ} (errors thicknesses : List ℕ) (n : ℕ) (out : List ℤ) 
   unfolding reading
   read-bad r e = refuses (reading N T errors thicknesses n out) r (stopped j (entryChecks N T errors thicknesses n) r e)
 
-  -- the same settings, as they were made
+  -- past the checks on the room, over the settings that were made
   pub room-left : (s : Settings) → made ≡ Good s → none ≡ first (roomChecks (s .height) (s .members) (length errors) (length thicknesses) n (length out))
   room-left s e =
       subst (λ (s : Settings). none ≡ first (roomChecks (s .height) (s .members) (length errors) (length thicknesses) n (length out))) (sym (j .good s e .0))

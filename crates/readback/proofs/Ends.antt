@@ -77,7 +77,7 @@ module _ (s : Settings) (sound : Sound s) (errors : List ℕ) (whole : s .entrie
         ∙ raised-place (lowestEnd (s .height)) best (ap isNothing (sym same) ∙ with-end)
         ∙ sym (ap place same)
 
-    -- and it is that of one of the last tmax rows
+    -- the height that was found is that of one of the last tmax rows
     pub top-low : least .place < s .tmax
     top-low = omega (arith, top-is, end-height (s .height) (s .members) errors n with-end .1, sound .greatest)
 

@@ -25,7 +25,7 @@ sizeChecks N T errors thicknesses n room =
     ∷ check 3 (ltb room (n + 1)) 3
     ∷ []
 
--- 1, 2, and those
+-- 1, 2, 3, 10, 3
 abbrev pub roomChecks : ℕ → ℕ → ℕ → ℕ → ℕ → ℕ → List (Check Numbered)
 roomChecks N T errors thicknesses n room = settingsChecks N T ++ sizeChecks N T errors thicknesses n room
 

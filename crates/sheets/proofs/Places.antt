@@ -32,7 +32,7 @@ module _ (s : Settings) (sound : Sound s) where
   unfolding entry
   entry-at sheet m h = rw (sound .greatest, sound .counts-are)
 
-  -- the same by a row
+  -- where a row and a count have their entry
   pub entry-row : (sheet : List ℕ) (m q : ℕ) → getD sheet (entryIndex (s .counts) q m) 0 ≡ entry (s .height) (s .members) sheet m (atRow (s .tmax) q)
   entry-row sheet m q =
       let e : q ≡ rowOf (s .tmax) (atRow (s .tmax) q) = omega (arith, sound .thick) in
