@@ -25,7 +25,7 @@ use Rattle.table.proofs.Plates.{cleared-is, length-table, table-again}
 use Rattle.record.specs.Faults.{tail}
 use Rattle.job.specs.File.{Job, Finished, wholeBy, wholeFile}
 use Rattle.job.proofs.Ordering.{ordered}
-use Rattle.load.specs.Load.{sizeChecks, frontOf, jobOf, loadingJob, loadingBy, loading}
+use Rattle.load.specs.Load.{tooLarge, frontOf, jobOf, loadingJob, loadingBy, loading}
 use Rattle.load.specs.Heeding.{Seen, frontJob, Cleared, filledBy}
 use Rattle.load.specs.declared.Load.{Load}
 
@@ -49,7 +49,7 @@ module _ (most : ℕ) (s : List ℕ) (byte : (i : ℕ) → getD s i 0 < 256) (lo
   call-is = ap (λ (t : Told Finished). loadingBy table (frontJob t)) (sym (w .is))
 
   fine : first (settingsChecks N T) ≡ none
-  fine = ordered (sizeChecks most) s byte (w .found) (w .is) .fine
+  fine = ordered (tooLarge most) s byte (w .found) (w .is) .fine
 
   -- clearing asks 3 alone, as the call does
   asks-same : first (clearing N T table .checks) ≡ first (call .checks)
