@@ -5,17 +5,18 @@ use mathlib.Core.Logic.{inl, inr}
 use mathlib.Core.Bool.{Bool, true, false}
 use mathlib.Core.List.{List, _++_}
 use Prim.Native.Nat.{ℕ, zero, suc, _+_, _≤_, _<_}
-use native.Mathlib.Nat.{mul-le-mul, div-le-self}
+use native.Mathlib.Nat.{mul-le-mul}
 use native.Mathlib.Omega.{arith}
 use borrow.Author.Tests.{ltb-true, ltb-false}
 use lib.Dec.{ltb}
 use lib.IntN.{ℤ, pos}
 use lib.ListN.{length, getD, take, length-replicate}
 use Rattle.paper.specs.Layer as paper
-use Rattle.paper.specs.Layer.{Plate, tmin, ofColumns}
+use Rattle.paper.specs.Layer.{Plate, ofColumns}
 use Rattle.paper.specs.Table.{rows, InBounds}
 use Rattle.paper.specs.Sequence.{M, error}
 use Rattle.paper.specs.Sheets.{entries}
+use Rattle.paper.proofs.Counts.{counts-rows}
 use Rattle.plate.specs.Refusal.{Told, done, refused}
 use Rattle.plate.specs.Settings.{Sound, settingsOf}
 use Rattle.plate.proofs.Sizes.{sound}
@@ -69,7 +70,7 @@ few-counts N T s e = go (ltb 63 (M N T)) refl
     go false f = ltb-false 63 (M N T) f
     go true f =
         let l = ltb-true 63 (M N T) f in
-        let d : M N T ≤ rows N T = (let x = div-le-self (rows N T) (tmin T) in omega (arith, k .counts-are)) in
+        let d = counts-rows N T (s .least-height) (s .some-thickness) in
         let m = mul-le-mul {n₁ = 65} {m₁ = 65} {n₂ = rows N T + 1} {m₂ = M N T + 1} (omega arith) (omega arith) in
         absurd (omega (arith, k .entries-are, m, e))
 
