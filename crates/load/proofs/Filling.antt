@@ -16,7 +16,7 @@ use Rattle.paper.specs.Limits.{mostBoundaries}
 use Rattle.paper.specs.Layer.{Column, columnOf}
 use Rattle.paper.specs.Table.{cells}
 use Rattle.plate.specs.Refusal.{Told, done, refused, refusal}
-use Rattle.plate.specs.Head.{Held, heldIn}
+use Rattle.plate.specs.Head.{Held, heldIn, headFor}
 use Rattle.plate.specs.declared.head.Head.{Head}
 use Rattle.plate.specs.declared.refusal.Refusal.{Refusal}
 use Rattle.plate.proofs.Heads.{not-full}
@@ -109,7 +109,7 @@ module _ (most : ℕ) (s old : List ℕ) where
           let a = asks-for (tooLarge most) s (f .reached) b job is in
           let n = under (tooLarge most) s (f .reached) .counts in
           let t : table ≡ tableOf N T columns old = f .table-is ∙ ap (λ (t : Told Finished). tableBy t columns old) is in
-          λ i. heldIn (record { height = a i .height; members = a i .members; columns = sym n i }) (sym t i)
+          λ i. heldIn (headFor (a i .height) (a i .members) (sym n i)) (sym t i)
 
       addable-by : (m : Moved) (t : Told What) → SaysBy s st at m t → CanAdd s (st .head) table t
       addable-by m (done (settings a)) q = tt

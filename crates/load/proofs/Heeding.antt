@@ -7,6 +7,7 @@ use mathlib.Core.Option.{none, some}
 use Prim.Native.Nat.{ℕ}
 use lib.ListN.{length}
 use Rattle.lists.specs.Checks.{first}
+use Rattle.plate.specs.Head.{headFor}
 use Rattle.plate.specs.Refusal.{Told, done, refused, refusal, numberOf}
 use Rattle.plate.specs.Settings.{settingsChecks}
 use Rattle.plate.specs.declared.refusal.Reason.{Reason}
@@ -85,7 +86,7 @@ module _ (most : ℕ) (s : List ℕ) {st : State} {at : ℕ} (r : Reached (tooLa
         record {
           found = jobEnding (askedOf (m .state)) (columnsTo r) (m .next);
           is = ends f;
-          asks = λ i. record { head = record { height = m .state .head .height; members = m .state .head .members; columns = n i }; bound = m .state .bound };
+          asks = λ i. record { head = headFor (m .state .head .height) (m .state .head .members) (n i); bound = m .state .bound };
         },
         refl,
       )
