@@ -14,7 +14,7 @@ use lib.IntN.{ℤ, pos, negsuc, _+ℤ_}
 use lib.ListN.{length, getD}
 use lib.Signed.{leZ, ltZ, ltZ-yes}
 use borrow.Author.Tests.{ltb-true, ltb-false, le-leb, lt-leb, lt-ltb}
-use Rattle.paper.specs.Layer.{Column, atOrBelow, insideCount, share, Between}
+use Rattle.paper.specs.Layer.{Column, IsColumn, atOrBelow, insideCount, share, Between}
 use Rattle.paper.specs.Table.{natural}
 use Rattle.plate.proofs.Datum.{leb-same}
 use Rattle.column.proofs.Shares.{bit, odd}
@@ -174,5 +174,6 @@ module _ (z : ℤ) where
       omega (arith, one-more bs (w .index) k r (w .there) (omega arith), x .0, x .1, y .0, y .1)
 
 -- for every layer, also one that no table has
-pub share-between : (N : ℕ) (bs : List ℕ) → Column N bs → (z : ℤ) (t : ℕ) → (0 < share bs z t) ↔ Between bs z t
-share-between N bs c z t = (to z bs t, from z bs t (c .rising))
+pub share-between : (N : ℕ) (column : Column) → IsColumn N column → (z : ℤ) (t : ℕ)
+    → (0 < share (column .boundaries) z t) ↔ Between (column .boundaries) z t
+share-between N column c z t = (to z (column .boundaries) t, from z (column .boundaries) t (c .rising))

@@ -1,6 +1,5 @@
--- The inside voxels that are counted from the datum are document 01's, so its share and its picture are what is judged; and a share is
--- at most half of its layer. Assumes nothing.
-use Prim.Native.Nat.{ℕ, zero, suc, _+_, _/_, _%_, _≤_}
+-- The inside voxels that are counted from the datum are document 01's, so its share and its picture are what is judged. Assumes nothing.
+use Prim.Native.Nat.{ℕ, zero, suc, _+_, _%_}
 use mathlib.Core.Path.{_≡_, refl, sym, ap, ap₂, _∙_}
 use mathlib.Core.Bool.{Bool, cond}
 use mathlib.Core.List.{List, [], _∷_}
@@ -42,7 +41,3 @@ inside-is bs h (suc t) =
 pub judged-is : (bs : List ℕ) (h t i : ℕ) → i ≡ inside bs h t → judgedOf i t ≡ judgement bs (heightOf h) t
 unfolding judgedOf
 judged-is bs h t i e = let q : i ≡ paper.insideCount bs (heightOf h) t = e ∙ sym (inside-is bs h t) in rw q
-
--- a share is at most half of its layer
-pub share-le : (bs : List ℕ) (z : ℤ) (t : ℕ) → paper.share bs z t ≤ t / 2
-share-le bs z t = omega arith

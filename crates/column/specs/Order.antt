@@ -6,6 +6,7 @@ use lib.Dec.{leb, ltb, eqb}
 use lib.ListN.{length, getD}
 use Rattle.lists.specs.Checks.{Check}
 use Rattle.lists.specs.Search.{lowest}
+use Rattle.paper.specs.Limits.{mostBoundaries}
 use Rattle.plate.specs.Refusal.{Numbered, check}
 
 -- boundary i is not above the one before, or above N
@@ -19,6 +20,6 @@ firstMisplaced N bs = lowest (misplaced N bs) (length bs)
 -- 4: boundary count odd or above 64; 5: boundary not above the one before, or above N
 unfoldable pub columnChecks : ℕ → List ℕ → List (Check Numbered)
 columnChecks N bs =
-    check 4 (eqb (length bs % 2) 1 || ltb 64 (length bs)) (length bs)
+    check 4 (eqb (length bs % 2) 1 || ltb mostBoundaries (length bs)) (length bs)
     ∷ check 5 (ltb (firstMisplaced N bs) (length bs)) (firstMisplaced N bs)
     ∷ []

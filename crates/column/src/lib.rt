@@ -15,9 +15,17 @@ use plate::height::datum_of;
 use plate::refusal::Checked;
 use plate::refusal::Reason;
 use plate::refusal::Refusal;
+use plate::refusal::refusal_at;
 use plate::settings::Made;
 use plate::settings::Settings;
 use plate::settings::is_allowed;
+
+// A column's limit.
+pub struct Column;
+
+impl Column {
+    pub const MOST_BOUNDARIES: usize = 64;
+}
 
 // One column in one layer: whether the picture fills it, and its share.
 pub struct Judged {
@@ -76,7 +84,7 @@ pub fn check_column(column: &[u16], height: usize) -> Checked
             place: count as u64,
         });
     }
-    if 64 < count {
+    if Column::MOST_BOUNDARIES < count {
         return Checked::Refused(Refusal {
             reason: Reason::BoundaryCount,
             place: count as u64,
@@ -153,12 +161,6 @@ pub fn judge(column: &[u16], start: u16, thickness: u16) -> Judged
     verdict(inside_of(column, wide(start), t), t)
 }
 
-fn refused(reason: Reason, place: u64) -> Pictured
-    ensures { λ r. ⌜ r ≡ Pictured.Refused (record { reason = reason; place = place }) ⌝ }
-{
-    Pictured::Refused(Refusal { reason, place })
-}
-
 // Where the settings are in order: 4, 5, 13.
 fn picture_of(column: &[u16], s: Settings, start: i32, thickness: u32) -> Pictured
     requires { ⌜ Sound s ⌝ }
@@ -170,16 +172,16 @@ fn picture_of(column: &[u16], s: Settings, start: i32, thickness: u32) -> Pictur
     }
     let h = datum_of(start);
     if h + s.tmax < 33 {
-        return refused(Reason::NotAdmissible, 0);
+        return Pictured::Refused(refusal_at(Reason::NotAdmissible, 0));
     }
     if s.height + s.tmax + 30 < h {
-        return refused(Reason::NotAdmissible, 0);
+        return Pictured::Refused(refusal_at(Reason::NotAdmissible, 0));
     }
     let t = thickness as usize;
     if is_allowed(s.members, t) {
         return Pictured::Done(judge(column, h as u16, thickness as u16));
     }
-    refused(Reason::NotAdmissible, 1)
+    Pictured::Refused(refusal_at(Reason::NotAdmissible, 1))
 }
 
 // Document 01, 'Picture of a column in a layer': 1, 2, 4, 5, 13.
@@ -188,7 +190,7 @@ pub fn picture(column: &[u16], height: u32, members: u32, start: i32, thickness:
 {
     let made = Settings::new(height, members);
     match made {
-        Made::Bad(reason) => refused(reason, 0),
+        Made::Bad(refusal) => Pictured::Refused(refusal),
         Made::Good(s) => picture_of(column, s, start, thickness),
     }
 }

@@ -1,8 +1,6 @@
-pub mod Laws
+pub mod Reading
 pub mod Bodies
-pub mod Found
+pub mod Says
 pub mod Folding
-pub mod Judging
+pub mod Deciding
 pub mod Ordering
-pub mod Filling
-pub mod Loading

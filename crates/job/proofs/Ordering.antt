@@ -1,144 +1,159 @@
--- What a file that is not refused holds: settings in order and not too large, columns in order, and no more than a plate may have. While it
--- is read the state has the settings once they were read, and they stay; each column passed its checks by them. Assumes nothing.
+-- What a file that is not refused holds: settings in order, columns in order, and no more than a table can have. On the way the state has the
+-- settings once they were read, each column passed its checks by them, and the count is that of the columns; and the settings stay to the end.
+-- Assumes nothing.
 use mathlib.Core.Path.{_≡_, refl, sym, ap, subst, _∙_}
 use mathlib.Core.Bool.{true, false}
-use mathlib.Core.List.{List, [], _∷_, _++_}
-use mathlib.Core.Option.{Option, none, some}
+use mathlib.Core.List.{List, [], _∷_, _++_, append-nil}
+use mathlib.Core.Option.{none}
 use Prim.Native.Nat.{ℕ, zero, suc, _+_, _≤_, _<_}
 use native.Mathlib.Omega.{arith}
-use borrow.Author.Tests.{ltb-false}
-use lib.Dec.{ltb}
-use lib.ListN.{length, getD}
+use lib.ListN.{length, getD, length-append}
 use Rattle.lists.specs.Checks.{first}
-use Rattle.lists.proofs.Checks.{first-none, or-false}
-use Rattle.paper.specs.Table.{cells, mostColumns}
-use Rattle.paper.specs.Sheets.{entries}
-use Rattle.plate.specs.Refusal.{Told, done, refused, Numbered}
+use Rattle.paper.specs.Limits.{mostColumns}
+use Rattle.paper.specs.Layer.{Column, columnOf}
+use Rattle.plate.specs.Refusal.{Told, done, refused}
 use Rattle.plate.specs.Settings.{settingsChecks}
+use Rattle.plate.proofs.Heads.{not-full}
 use Rattle.column.specs.Order.{columnChecks}
-use Rattle.job.specs.Bytes.{le16, le32, words}
-use Rattle.job.specs.Record.{What, settings, column, ended, remark, asked, begin, counted, Moved, readRecord, startState, tailChecks}
-use Rattle.job.specs.Fold.{foldFrom, foldOf}
-use Rattle.job.specs.File.{Job, sizeChecks, unless, behind, jobBy, jobOver, jobOf}
-use Rattle.job.specs.Load.{InOrder, Ordered}
+use Rattle.record.specs.Bytes.{words}
+use Rattle.record.specs.Frame.{bodyAt}
+use Rattle.record.proofs.Bytes.{quad-small}
+use Rattle.job.specs.State.{startState, begin, counted, askedOf}
+use Rattle.job.specs.Record.{askedAt, What, settings, column, ended, remark, Moved, readRecord}
+use Rattle.job.specs.Fold.{foldFrom}
+use Rattle.job.specs.File.{Finished, Asking, unless, behind, columnIn, jobBy, jobOver, endless, jobFrom}
+use Rattle.job.specs.Reached.{Passes, Ends, Reached, start, further, columnsTo, InOrder, Ordered}
 use Rattle.job.specs.declared.Asked.{Asked}
 use Rattle.job.specs.declared.State.{State}
-use Rattle.job.proofs.Found.{SaysBy, read-says}
+use Rattle.job.proofs.Says.{SaysBy, read-says}
+use Rattle.job.proofs.Folding.{finished, left}
+use Rattle.job.proofs.Deciding.{end-decides}
 
--- ---- what was told where it was not refused
+one-more : (N : ℕ) (columns : List Column) (bs : List ℕ) → InOrder N columns → first (columnChecks N bs) ≡ none → InOrder N (columns ++ (columnOf bs ∷ []))
+one-more N [] bs o e = (e, tt)
+one-more N (c ∷ columns) bs o e = (o .0, one-more N columns bs (o .1) e)
 
-unless-done : (o : Option Numbered) (t : Told Job) (job : Job) → unless o t ≡ done job → (o ≡ none) × (t ≡ done job)
-unless-done none t job e = (refl, e)
-unless-done (some r) t job e = absurd (let z : _≡_ {A = ℕ} 0 1 = cc in omega arith)
+-- states with one head and bound ask for the same
+same-asked : (st st′ : State) → st .head ≡ st′ .head → st .bound ≡ st′ .bound → askedOf st ≡ askedOf st′
+same-asked st st′ h b = λ i. record { height = h i .height; members = h i .members; bound = b i }
 
--- a job is what is left of it behind its first columns
-pub record Behind (columns : List (List ℕ)) (t : Told Job) (job : Job) : Type 0 where
-  pub tail : Job
-  pub is : t ≡ done tail
-  pub asked : job .asked ≡ tail .asked
-  pub columns-are : job .columns ≡ columns ++ tail .columns
+module _ (asking : Asking) (s : List ℕ) where
+  -- ---- on the way
 
-pub behind-done : (columns : List (List ℕ)) (t : Told Job) (job : Job) → behind columns t ≡ done job → Behind columns t job
-behind-done columns (done tail) job e =
-    let f : record { asked = tail .asked; columns = columns ++ tail .columns } ≡ job = cc in
-    record { tail = tail; is = refl; asked = sym (ap (λ (j : Job). j .asked) f); columns-are = sym (ap (λ (j : Job). j .columns) f) }
-behind-done columns (refused number place) job e = absurd (let z : _≡_ {A = ℕ} 0 1 = cc in omega arith)
+  -- settings that were not refused
+  pub record Asks (a : Asked) : Type 0 where
+    pub fine : first (settingsChecks (a .height) (a .members)) ≡ none
+    pub place : ℕ
+    pub unasked : first (asking place a) ≡ none
+    pub read-there : a ≡ askedAt s place
 
--- four bytes are a number of 32 bits
-quad-small : (s : List ℕ) → ((i : ℕ) → getD s i 0 < 256) → (at : ℕ) → le32 s at < 4_294_967_296
-unfolding le32 le16
-quad-small s byte at = omega (arith, byte at, byte (at + 1), byte (at + 2), byte (at + 2 + 1))
+  -- what is known of the state, and of the columns so far
+  pub record Under (st : State) (columns : List Column) : Type 0 where
+    pub settled : st .begun ≡ true → Asks (askedOf st)
+    pub bare : st .begun ≡ false → columns ≡ []
+    pub unended : st .ended ≡ false
+    pub counts : st .head .columns ≡ length columns
+    pub few : st .head .columns ≤ mostColumns
+    pub order : InOrder (st .head .height) columns
 
-module _ (most : ℕ) (s : List ℕ) (byte : (i : ℕ) → getD s i 0 < 256) where
-  -- settings in order, and a table and a sheet that are not too large
-  record Asks (a : Asked) : Type 0 where
-    fine : first (settingsChecks (a .height) (a .members)) ≡ none
-    few-cells : cells (a .height) (a .members) ≤ most
-    few-entries : entries (a .height) (a .members) ≤ most
-    bits : a .members < 4_294_967_296
-    low-bound : a .bound < 4_294_967_296
+  step : (st : State) (columns : List Column) (at : ℕ) (m : Moved) (t : Told What) → Passes asking at t → SaysBy s st at m t → Under st columns
+      → Under (m .state) (columns ++ columnIn s t)
+  step st columns at m (done (settings a)) p q u =
+      let asks : Asks a = record {
+        fine = q .fine;
+        place = at;
+        unasked = p;
+        read-there = q .asked;
+      } in
+      let none-yet : columns ≡ [] = u .bare (q .first-of-all) in
+      let new : Under (begin st a) columns = record {
+        settled = λ _. asks;
+        bare = λ e. none-yet;
+        unended = u .unended;
+        counts = u .counts;
+        few = u .few;
+        order = subst (InOrder (a .height)) (sym none-yet) tt;
+      } in
+      subst (Under (m .state)) (sym (append-nil columns)) (subst (λ (x : State). Under x columns) (sym (q .state)) new)
+  step st columns at m (done (column from count)) p q u =
+      let l = length-append columns (columnOf (words s from count) ∷ []) in
+      let room = not-full (st .head) (q .room) in
+      let new : Under (counted st) (columns ++ (columnOf (words s from count) ∷ [])) = record {
+        settled = u .settled;
+        bare = λ e. absurd (let b = q .begun in let z : _≡_ {A = ℕ} 0 1 = cc in omega arith);
+        unended = u .unended;
+        counts = omega (arith, u .counts);
+        few = omega arith;
+        order = one-more (st .head .height) columns (words s from count) (u .order) (q .order);
+      } in
+      subst (λ (x : State). Under x (columns ++ (columnOf (words s from count) ∷ []))) (sym (q .state)) new
+  step st columns at m (done (ended n)) p q u = absurd p
+  step st columns at m (done remark) p q u = subst (Under (m .state)) (sym (append-nil columns)) (subst (λ (x : State). Under x columns) (sym (q .state)) u)
+  step st columns at m (refused number place) p q u = absurd p
 
-  -- what is known of the state on the way
-  record Under (st : State) : Type 0 where
-    settled : st .begun ≡ true → Asks (st .asked)
-    unended : st .ended ≡ false
-    few : st .columns ≤ mostColumns
+  pub under : {st : State} {at : ℕ} (r : Reached asking s st at) → Under st (columnsTo r)
+  under start = record {
+    settled = λ b. absurd (let z : _≡_ {A = ℕ} 0 1 = cc in omega arith);
+    bare = λ _. refl;
+    unended = refl;
+    counts = refl;
+    few = omega arith;
+    order = tt;
+  }
+  under (further {st} {at} r p) = step st (columnsTo r) at (readRecord s st at) (readRecord s st at .told) p (read-says s st at .by) (under r)
 
-  -- and of what is read from there
-  record Holds (st : State) (job : Job) : Type 0 where
-    asks : Asks (job .asked)
-    order : InOrder (job .asked .height) (job .columns)
-    few : st .columns + length (job .columns) ≤ mostColumns
-    same : st .begun ≡ true → job .asked ≡ st .asked
+  -- ---- at the end
 
-  small : (at : ℕ) (a : Asked) → first (settingsChecks (a .height) (a .members)) ≡ none → a ≡ asked s at → first (sizeChecks most at a) ≡ none → Asks a
-  unfolding sizeChecks
-  small at a fine is e =
-      let q = first-none (sizeChecks most at a) .0 e in
-      let p = or-false (ltb most (cells (a .height) (a .members))) (ltb most (entries (a .height) (a .members))) (q .0) in
-      record {
-        fine = fine;
-        few-cells = ltb-false _ _ (p .0);
-        few-entries = ltb-false _ _ (p .1);
-        bits = rw is (quad-small s byte (at + 4 + 2));
-        low-bound = rw is (quad-small s byte (at + 4 + 6));
-      }
+  pub ordered : ((i : ℕ) → getD s i 0 < 256) → (f : Finished) → jobFrom asking s ≡ done f → Ordered asking (f .job)
+  ordered byte f e = go (end-decides asking s f .0 e)
+    where
+      go : ((st : State) × (at : ℕ) × (r : Reached asking s st at) × Ends (readRecord s st at .told)
+          × (finished (askedOf (readRecord s st at .state)) (columnsTo r) (readRecord s st at .next) ≡ f)) → Ordered asking (f .job)
+      go (st, at, r, e, is) =
+          let u = under r in
+          let q = subst (SaysBy s st at (readRecord s st at)) (e .1) (read-says s st at .by) in
+          let a = u .settled (q .begun (u .unended)) in
+          subst (λ (g : Finished). Ordered asking (g .job)) is
+          (subst (λ (x : Asked). Ordered asking (record { asked = x; columns = columnsTo r })) (sym (same-asked (readRecord s st at .state) st (q .head) (q .bound)))
+          (record {
+            fine = a .fine;
+            place = a .place;
+            unasked = a .unasked;
+            bits = rw (a .read-there) (quad-small s byte (bodyAt (a .place) + 2));
+            low-bound = rw (a .read-there) (quad-small s byte (bodyAt (a .place) + 6));
+            order = u .order;
+            few = omega (arith, u .few, u .counts);
+          }))
 
-  -- one record, where what is read after it is known to hold
-  module _ (st : State) (at : ℕ) (u : Under st) (m : Moved) (rest : State → ℕ → Told Job)
-      (later : (st′ : State) (at′ : ℕ) → Under st′ → (job : Job) → rest st′ at′ ≡ done job → Holds st′ job) where
-    one : (t : Told What) → SaysBy s st at m t → (job : Job) → jobBy most t s at m rest ≡ done job → Holds st job
-    one (refused number place) p job e = absurd (let z : _≡_ {A = ℕ} 0 1 = cc in omega arith)
-    one (done (settings a)) p job e =
-        let q = unless-done (first (sizeChecks most at a)) (rest (m .state) (m .next)) job e in
-        let k = small at a (p .3) (p .4) (q .0) in
-        let n : Under (begin st a) = record { settled = λ _. k; unended = u .unended; few = u .few } in
-        let h = subst (λ (x : State). Holds x job) (p .2) (later (m .state) (m .next) (subst Under (sym (p .2)) n) job (q .1)) in
-        record { asks = h .asks; order = h .order; few = h .few; same = λ b. absurd (let c = p .1 in let z : _≡_ {A = ℕ} 0 1 = cc in omega arith) }
-    one (done (column start count)) p job e =
-        let q = behind-done (words s start count ∷ []) (rest (m .state) (m .next)) job e in
-        let n : Under (counted st) = record { settled = u .settled; unended = u .unended; few = omega (arith, p .3) } in
-        let h = subst (λ (x : State). Holds x (q .tail)) (p .2) (later (m .state) (m .next) (subst Under (sym (p .2)) n) (q .tail) (q .is)) in
-        let a : job .asked ≡ st .asked = q .asked ∙ h .same (p .1) in
-        record {
-          asks = subst Asks (sym (q .asked)) (h .asks);
-          order =
-              subst (InOrder (job .asked .height)) (sym (q .columns-are))
-              (subst (λ (x : Asked). first (columnChecks (x .height) (words s start count)) ≡ none) (sym a) (p .4), subst (λ (x : Asked). InOrder (x .height) (q .tail .columns)) (sym (q .asked)) (h .order));
-          few = omega (arith, h .few, ap (λ (l : List (List ℕ)). length l) (q .columns-are));
-          same = λ _. a;
-        }
-    one (done (ended columns)) p job e =
-        let q = unless-done (first (tailChecks s (m .next))) (done (record { asked = m .state .asked; columns = [] })) job e in
-        let f : record { asked = m .state .asked; columns = [] } ≡ job = (let g = q .1 in cc) in
-        let a : job .asked ≡ st .asked = sym (ap (λ (j : Job). j .asked) f) ∙ p .0 in
-        let n : job .columns ≡ [] = sym (ap (λ (j : Job). j .columns) f) in
-        record {
-          asks = rw a (u .settled (p .2 (u .unended) .0));
-          order = rw n tt;
-          few = rw n (omega (arith, u .few));
-          same = λ _. a;
-        }
-    one (done remark) p job e =
-        subst (λ (x : State). Holds x job) (p .1) (later (m .state) (m .next) (subst Under (sym (p .1)) u) job e)
+  -- ---- the settings stay
 
-  all : (n : ℕ) (st : State) (at : ℕ) → Under st → (job : Job) → foldFrom (jobOver most) (refused 16 0) n s st at ≡ done job → Holds st job
+  behind-done : (columns : List Column) (t : Told Finished) (f : Finished) → behind columns t ≡ done f → (g : Finished) × (t ≡ done g) × (g .job .asked ≡ f .job .asked)
+  behind-done columns (done g) f e =
+      let is : finished (g .job .asked) (columns ++ g .job .columns) (g .past) ≡ f = cc in
+      (g, refl, ap (λ (x : Finished). x .job .asked) is)
+  behind-done columns (refused number place) f e = absurd (let z : _≡_ {A = ℕ} 0 1 = cc in omega arith)
+
+  -- of one record, where they stay in what is read after it
+  module _ (st : State) (at : ℕ) (begun : st .begun ≡ true) (m : Moved) (rest : State → ℕ → Told Finished)
+      (later : (st′ : State) (at′ : ℕ) → st′ .begun ≡ true → (f : Finished) → rest st′ at′ ≡ done f → f .job .asked ≡ askedOf st′) where
+    stays : (t : Told What) → SaysBy s st at m t → (f : Finished) → jobBy asking t s at m rest ≡ done f → f .job .asked ≡ askedOf st
+    stays (done (settings a)) q f e = absurd (let b = q .first-of-all in let z : _≡_ {A = ℕ} 0 1 = cc in omega arith)
+    stays (done (column from count)) q f e =
+        let b = behind-done (columnOf (words s from count) ∷ []) (rest (m .state) (m .next)) f e in
+        sym (b .2) ∙ later (m .state) (m .next) (ap (λ (x : State). x .begun) (q .state) ∙ begun) (b .0) (b .1) ∙ ap askedOf (q .state)
+    stays (done (ended columns)) q f e = let g : finished (askedOf (m .state)) [] (m .next) ≡ f = cc in sym (ap (λ (x : Finished). x .job .asked) g) ∙ same-asked (m .state) st (q .head) (q .bound)
+    stays (done remark) q f e = later (m .state) (m .next) (ap (λ (x : State). x .begun) (q .state) ∙ begun) f e ∙ ap askedOf (q .state)
+    stays (refused number place) q f e = absurd (let z : _≡_ {A = ℕ} 0 1 = cc in omega arith)
+
+  stay : (n : ℕ) (st : State) (at : ℕ) → st .begun ≡ true → (f : Finished) → foldFrom (jobOver asking) endless n s st at ≡ done f → f .job .asked ≡ askedOf st
   unfolding foldFrom
-  all zero st at u job e = absurd (let z : _≡_ {A = ℕ} 0 1 = cc in omega arith)
-  all (suc n) st at u job e =
-      one st at u (readRecord s st at) (foldFrom (jobOver most) (refused 16 0) n s) (all n) (readRecord s st at .told) (read-says s st at .by) job e
+  stay zero st at b f e = absurd (let z : _≡_ {A = ℕ} 0 1 = cc in omega arith)
+  stay (suc n) st at b f e =
+      stays st at b (readRecord s st at) (foldFrom (jobOver asking) endless n s) (stay n) (readRecord s st at .told) (read-says s st at .by) f e
 
-  pub ordered : (job : Job) → jobOf most s ≡ done job → Ordered most job
-  unfolding jobOf foldOf
-  ordered job e =
-      let u : Under startState = record { settled = λ b. absurd (let z : _≡_ {A = ℕ} 0 1 = cc in omega arith); unended = refl; few = omega arith } in
-      let h = all (suc (length s)) startState 0 u job e in
-      record {
-        fine = h .asks .fine;
-        few-cells = h .asks .few-cells;
-        few-entries = h .asks .few-entries;
-        bits = h .asks .bits;
-        low-bound = h .asks .low-bound;
-        order = h .order;
-        few = omega (arith, h .few);
-      }
+  -- what was read as settings is what the job asks for
+  pub asks-for : {st : State} {at : ℕ} → Reached asking s st at → st .begun ≡ true → (f : Finished) → jobFrom asking s ≡ done f → f .job .asked ≡ askedOf st
+  asks-for {st} {at} r b f e =
+      let l = left asking s r in
+      let g = behind-done (columnsTo r) (foldFrom (jobOver asking) endless (l .n) s st at) f (sym (l .same) ∙ e) in
+      sym (g .2) ∙ stay (l .n) st at b (g .0) (g .1)

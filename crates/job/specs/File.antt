@@ -1,28 +1,31 @@
--- Document 01, 'Job file': a whole file is what its settings ask for and its columns, or the refusal of the first record at fault.
--- 'A table or sheet over 4,096 entries: 17 at the settings record, straight after 1 and 2 there and so before any fault of a later
--- record': here for any number of entries. Assumes nothing.
+-- Document 01, 'Job file': from its records a file is a job, which is what its settings ask for and its columns, and the place past its end
+-- record; or the refusal of the first record at fault. That nothing stands past the end is a check of the whole file. Assumes nothing.
 use Prim.Native.Nat.{ℕ}
-use mathlib.Core.Bool.{_||_}
 use mathlib.Core.List.{List, [], _∷_, _++_}
 use mathlib.Core.Option.{Option, none, some}
-use lib.Dec.{ltb}
 use Rattle.lists.specs.Checks.{Check, first}
-use Rattle.paper.specs.Table.{cells}
-use Rattle.paper.specs.Sheets.{entries}
-use Rattle.plate.specs.Refusal.{Told, done, refused, Numbered, check}
-use Rattle.job.specs.Bytes.{words}
-use Rattle.job.specs.Record.{What, settings, column, ended, remark, tailChecks}
+use Rattle.paper.specs.Layer.{Column, columnOf}
+use Rattle.plate.specs.Refusal.{Told, done, refused, Numbered, decided}
+use Rattle.record.specs.Bytes.{words}
+use Rattle.record.specs.Faults.{tail}
+use Rattle.job.specs.State.{askedOf}
+use Rattle.job.specs.Record.{What, settings, column, ended, remark}
 use Rattle.job.specs.Fold.{Over, foldOf}
 use Rattle.job.specs.declared.Asked.{Asked}
 
 -- a job: what its settings ask for, and its columns in the file's order
 pub record Job : Type 0 where
   pub asked : Asked
-  pub columns : List (List ℕ)
+  pub columns : List Column
 
--- 17: a table or a sheet of these settings has more entries than there is room for
-unfoldable pub sizeChecks : ℕ → ℕ → Asked → List (Check Numbered)
-sizeChecks most at a = check 17 (ltb most (cells (a .height) (a .members)) || ltb most (entries (a .height) (a .members))) at ∷ []
+-- a job, and the place past its end record
+pub record Finished : Type 0 where
+  pub job : Job
+  pub past : ℕ
+
+-- what a reader asks of the settings at a place beside 1 and 2, straight after them
+abbrev pub Asking : Type 0
+Asking = ℕ → Asked → List (Check Numbered)
 
 -- what is told where these checks were asked before
 abbrev pub unless : {X : Type 0} → Option Numbered → Told X → Told X
@@ -30,21 +33,41 @@ unless none told = told
 unless (some r) told = refused (r .number) (r .place)
 
 -- a job with columns before its own
-abbrev pub behind : List (List ℕ) → Told Job → Told Job
-behind columns (done job) = done (record { asked = job .asked; columns = columns ++ job .columns })
+abbrev pub behind : List Column → Told Finished → Told Finished
+behind columns (done f) = done (record { job = record { asked = f .job .asked; columns = columns ++ f .job .columns }; past = f .past })
 behind columns (refused number place) = refused number place
 
+-- the column that a record is, and none where it is none
+abbrev pub columnIn : List ℕ → Told What → List Column
+columnIn s (done (settings a)) = []
+columnIn s (done (column start count)) = columnOf (words s start count) ∷ []
+columnIn s (done (ended columns)) = []
+columnIn s (done remark) = []
+columnIn s (refused number place) = []
+
 -- what a record that was read makes of the rest
-abbrev pub jobBy : ℕ → Told What → Over (Told Job)
-jobBy most (done (settings a)) s at m rest = unless (first (sizeChecks most at a)) (rest (m .state) (m .next))
-jobBy most (done (column start count)) s at m rest = behind (words s start count ∷ []) (rest (m .state) (m .next))
-jobBy most (done (ended columns)) s at m rest = unless (first (tailChecks s (m .next))) (done (record { asked = m .state .asked; columns = [] }))
-jobBy most (done remark) s at m rest = rest (m .state) (m .next)
-jobBy most (refused number place) s at m rest = refused number place
+abbrev pub jobBy : Asking → Told What → Over (Told Finished)
+jobBy asking (done (settings a)) s at m rest = unless (first (asking at a)) (rest (m .state) (m .next))
+jobBy asking (done (column start count)) s at m rest = behind (columnOf (words s start count) ∷ []) (rest (m .state) (m .next))
+jobBy asking (done (ended columns)) s at m rest = done (record { job = record { asked = askedOf (m .state); columns = [] }; past = m .next })
+jobBy asking (done remark) s at m rest = rest (m .state) (m .next)
+jobBy asking (refused number place) s at m rest = refused number place
 
-abbrev pub jobOver : ℕ → Over (Told Job)
-jobOver most s at m rest = jobBy most (m .told) s at m rest
+abbrev pub jobOver : Asking → Over (Told Finished)
+jobOver asking s at m rest = jobBy asking (m .told) s at m rest
 
--- THE FILE: a job, or a refusal
-unfoldable pub jobOf : ℕ → List ℕ → Told Job
-jobOf most s = foldOf (jobOver most) (refused 16 0) s
+-- what would be told of a file whose records never end, by no number of document 01's: there is none
+abbrev pub endless : Told Finished
+endless = refused 0 0
+
+-- A JOB from the front of these bytes, or a refusal
+unfoldable pub jobFrom : Asking → List ℕ → Told Finished
+jobFrom asking s = foldOf (jobOver asking) endless s
+
+-- A WHOLE FILE: a job, and nothing past its end record
+abbrev pub wholeBy : List ℕ → Told Finished → Told Job
+wholeBy s (done f) = decided (tail s (f .past) ∷ []) (f .job)
+wholeBy s (refused number place) = refused number place
+
+unfoldable pub wholeFile : Asking → List ℕ → Told Job
+wholeFile asking s = wholeBy s (jobFrom asking s)

@@ -1,5 +1,6 @@
-pub mod Bytes
+pub mod State
+pub mod Kinds
 pub mod Record
 pub mod Fold
 pub mod File
-pub mod Load
+pub mod Reached

@@ -1,34 +1,36 @@
-// The job file reader: a cursor by value, a record-read enum, and a reading state that goes in and comes back.
+// The job file: its kinds of records, a cursor by value that reads one record, and a reading state that goes in and comes back.
 ghost use mathlib.Core.Path.{_≡_};
-ghost use Prim.Native.Nat.{_+_, _-_, _*_, _≤_, _<_};
+ghost use mathlib.Core.Bool.{false};
+ghost use mathlib.Core.List.{[], _∷_};
+ghost use Prim.Native.Nat.{_≤_};
 ghost use lib.ListN.{length};
 ghost use Rattle.lists.specs.Checks.{first};
-ghost use Rattle.plate.specs.Refusal.{numberOf, refused};
+ghost use Rattle.paper.specs.Limits.{mostBoundaries};
+ghost use Rattle.plate.specs.Refusal.{numberOf, refused, decided};
 ghost use Rattle.plate.specs.Checked.{saidBy};
-ghost use Rattle.plate.specs.Settings.{settingsChecks};
-ghost use lib.Dec.{ltb};
-ghost use mathlib.Core.Bool.{_||_};
-ghost use mathlib.Core.List.{[]};
-ghost use mathlib.Core.Option.{none};
+ghost use Rattle.plate.specs.Head.{isFull};
 ghost use Rattle.column.specs.Order.{columnChecks};
-ghost use Rattle.job.specs.Bytes.{le16, le32, words};
-ghost use Rattle.paper.specs.Table.{cells};
-ghost use Rattle.paper.specs.Sheets.{entries};
-ghost use Rattle.table.specs.Plates.{tableOf};
-ghost use Rattle.table.specs.Tabled.{toldTable};
-ghost use Rattle.job.specs.File.{jobOf};
-ghost use Rattle.job.specs.Load.{Sane, Heeded, Surveyed, Whole, Adds, Addable, addedAll, columnIn, columnsIn, toldLoad, loadAnswer, loadTable};
-ghost use Rattle.job.specs.Record.{settings as settingsKind, column as columnKind, ending as endingKind, remark as remarkKind, kindOf, moved, recordOf, readRecord, startState, toldRead, counted as State·counted, toldStep};
+ghost use Rattle.record.specs.Bytes.{words};
+ghost use Rattle.record.specs.Frame.{pastAt};
+ghost use Rattle.record.specs.Faults.{tail};
+ghost use Rattle.job.specs.State.{startState, begin as State·begin, counted as State·counted, finish as State·finish};
+ghost use Rattle.job.specs.Kinds.{kindOf, allowedHere, fits as Kind·fits};
+ghost use Rattle.job.specs.Record.{Ready, moved, again, readBody, readRecord, toldRead, toldStep};
+use column::Column;
 use column::check_column;
+use plate::head::Head;
 use plate::refusal::Checked;
 use plate::refusal::Reason;
-use plate::refusal::Refusal;
 use plate::settings::Made;
 use plate::settings::Settings;
-use table::Tabled;
-use table::Tally;
-use table::add_column;
-use table::clear_table;
+use record::Fault;
+use record::check_frame;
+use record::check_tail;
+use record::kind_at;
+use record::length_at;
+use record::quad;
+use record::read_words;
+use record::word;
 
 // What a settings record asks for.
 pub struct Asked {
@@ -37,12 +39,12 @@ pub struct Asked {
     pub bound: u32,
 }
 
-// What has been read so far.
+// What has been read so far: whether settings were, whether the end was, what goes with the table of these columns, and the bound.
 pub struct State {
     pub begun: bool,
     pub ended: bool,
-    pub columns: u32,
-    pub asked: Asked,
+    pub head: Head,
+    pub bound: u32,
 }
 
 impl State {
@@ -50,26 +52,99 @@ impl State {
     pub fn new() -> State
         ensures { λ r. ⌜ r ≡ startState ⌝ }
     {
-        let asked = Asked {
-            height: 0,
-            members: 0,
-            bound: 0,
-        };
         State {
             begun: false,
             ended: false,
-            columns: 0,
-            asked,
+            head: Head::cleared(0, 0),
+            bound: 0,
         }
     }
 
-    // One column more.
+    // Settings were read. The column count stays as it stands.
+    fn begin(mut self, asked: Asked) -> State
+        ensures { λ r. ⌜ r ≡ State·begin self asked ⌝ }
+    {
+        self.begun = true;
+        self.head.height = asked.height;
+        self.head.members = asked.members;
+        self.bound = asked.bound;
+        self
+    }
+
+    // One column more was read.
     fn counted(mut self) -> State
-        requires { ⌜ self .columns < 1000000 ⌝ }
+        requires { ⌜ isFull (self .head) ≡ false ⌝ }
         ensures { λ r. ⌜ r ≡ State·counted self ⌝ }
     {
-        self.columns = self.columns + 1;
+        let head = self.head;
+        self.head = head.with_column();
         self
+    }
+
+    // The end was read.
+    fn finish(mut self) -> State
+        ensures { λ r. ⌜ r ≡ State·finish self ⌝ }
+    {
+        self.ended = true;
+        self
+    }
+}
+
+// The kinds of records.
+pub enum Kind {
+    Settings,
+    Column,
+    End,
+    Remark,
+    Refused,
+}
+
+impl Kind {
+    pub const SETTINGS: u16 = 1;
+
+    pub const COLUMN: u16 = 2;
+
+    pub const END: u16 = 3;
+
+    pub const FIRST_REMARK: u16 = 32768;
+
+    // The kind of a number; other numbers are refused.
+    fn of(number: u16) -> Kind
+        ensures { λ r. ⌜ r ≡ kindOf number ⌝ }
+    {
+        match number {
+            Kind::SETTINGS => Kind::Settings,
+            Kind::COLUMN => Kind::Column,
+            Kind::END => Kind::End,
+            Kind::FIRST_REMARK..=65535 => Kind::Remark,
+            _ => Kind::Refused,
+        }
+    }
+
+    // Whether a record of this kind may come now, by the kinds before it.
+    fn is_allowed(self, state: State) -> bool
+        ensures { λ r. ⌜ r ≡ allowedHere state self ⌝ }
+    {
+        match self {
+            Kind::Settings => !state.begun,
+            Kind::Column => state.begun,
+            Kind::End => state.begun,
+            Kind::Remark => true,
+            Kind::Refused => false,
+        }
+    }
+
+    // Whether a body of this length is right.
+    fn fits(self, len: usize) -> bool
+        ensures { λ r. ⌜ r ≡ Kind·fits self len ⌝ }
+    {
+        match self {
+            Kind::Settings => len == 10,
+            Kind::Column => len % 2 == 0,
+            Kind::End => len == 4,
+            Kind::Remark => true,
+            Kind::Refused => true,
+        }
     }
 }
 
@@ -101,7 +176,7 @@ impl Cursor {
         Cursor { at: 0 }
     }
 
-    // A record at fault: nothing moves.
+    // A record at fault: nothing moves, and the place is its first byte.
     fn faulted(self, state: State, reason: Reason) -> Step
         ensures { λ r. ⌜ toldStep r ≡ moved state (self .at) (refused (numberOf reason) (self .at)) ⌝ }
     {
@@ -114,141 +189,107 @@ impl Cursor {
         }
     }
 
-    fn remark(mut self, input: &[u8], state: State, len: usize) -> Step
-        requires { ⌜ (self .at + 4 ≤ length (now input)) × (len ≡ le16 (now input) (self .at)) ⌝ }
-        ensures { λ r. ⌜ toldStep r ≡ recordOf (now (input .entry)) state (self .at) remarkKind ⌝ }
+    // A record that was read: the reading goes on past it.
+    fn passed(mut self, input: &[u8], read: Read, state: State) -> Step
+        requires { ⌜ pastAt (now input) (self .at) ≤ length (now input) ⌝ }
+        ensures { λ r. ⌜ toldStep r ≡ record { told = toldRead read; next = pastAt (now (input .entry)) (self .at); state = state } ⌝ }
     {
-        let start = self.at + 4;
-        if input.len() - start < len {
-            return self.faulted(state, Reason::Malformed);
-        }
-        self.at = start + len;
+        let at = self.at;
+        self.at = at + 4 + length_at(input, at);
         Step {
-            read: Read::Remark,
+            read,
             cursor: self,
             state,
         }
     }
 
-    fn ending(mut self, input: &[u8], mut state: State, len: usize) -> Step
-        requires { ⌜ (self .at + 4 ≤ length (now input)) × (len ≡ le16 (now input) (self .at)) ⌝ }
-        ensures { λ r. ⌜ toldStep r ≡ recordOf (now (input .entry)) state (self .at) endingKind ⌝ }
+    fn settings(self, input: &[u8], state: State) -> Step
+        requires { ⌜ Ready (now input) state (self .at) Kind.Settings ⌝ }
+        ensures { λ r. ⌜ toldStep r ≡ readBody (now (input .entry)) state (self .at) Kind.Settings ⌝ }
     {
         let start = self.at + 4;
-        let begun = state.begun;
-        if !begun {
-            return self.faulted(state, Reason::Malformed);
-        }
-        if len != 4 {
-            return self.faulted(state, Reason::Malformed);
-        }
-        if input.len() - start < len {
-            return self.faulted(state, Reason::Malformed);
-        }
-        let columns = quad(input, start);
-        if columns != state.columns {
-            return self.faulted(state, Reason::Malformed);
-        }
-        self.at = start + len;
-        state.ended = true;
-        Step {
-            read: Read::End(columns),
-            cursor: self,
-            state,
-        }
-    }
-
-    fn settings(mut self, input: &[u8], mut state: State, len: usize) -> Step
-        requires { ⌜ (self .at + 4 ≤ length (now input)) × (len ≡ le16 (now input) (self .at)) ⌝ }
-        ensures { λ r. ⌜ toldStep r ≡ recordOf (now (input .entry)) state (self .at) settingsKind ⌝ }
-    {
-        let start = self.at + 4;
-        let begun = state.begun;
-        if begun {
-            return self.faulted(state, Reason::Malformed);
-        }
-        if len != 10 {
-            return self.faulted(state, Reason::Malformed);
-        }
-        if input.len() - start < len {
-            return self.faulted(state, Reason::Malformed);
-        }
         let height = word(input, start) as u32;
         let members = quad(input, start + 2);
         let bound = quad(input, start + 6);
         let made = Settings::new(height, members);
         match made {
-            Made::Bad(reason) => self.faulted(state, reason),
+            Made::Bad(refusal) => {
+                let reason = refusal.reason;
+                self.faulted(state, reason)
+            }
             Made::Good(_) => {
                 let asked = Asked {
                     height,
                     members,
                     bound,
                 };
-                self.at = start + len;
-                state.begun = true;
-                state.asked = asked;
-                Step {
-                    read: Read::Settings(asked),
-                    cursor: self,
-                    state,
-                }
+                self.passed(input, Read::Settings(asked), state.begin(asked))
             }
         }
     }
 
-    fn column(mut self, input: &[u8], state: State, len: usize) -> Step
-        requires { ⌜ (self .at + 4 ≤ length (now input)) × (len ≡ le16 (now input) (self .at)) ⌝ }
-        ensures { λ r. ⌜ toldStep r ≡ recordOf (now (input .entry)) state (self .at) columnKind ⌝ }
+    fn column(self, input: &[u8], state: State) -> Step
+        requires { ⌜ Ready (now input) state (self .at) Kind.Column ⌝ }
+        ensures { λ r. ⌜ toldStep r ≡ readBody (now (input .entry)) state (self .at) Kind.Column ⌝ }
     {
-        let start = self.at + 4;
-        let count = len / 2;
-        let columns = state.columns;
-        let begun = state.begun;
-        if !begun {
-            return self.faulted(state, Reason::Malformed);
-        }
-        if len % 2 != 0 {
-            return self.faulted(state, Reason::Malformed);
-        }
-        if input.len() - start < len {
-            return self.faulted(state, Reason::Malformed);
-        }
-        if Tally::MOST_COLUMNS <= columns {
+        let at = self.at;
+        let start = at + 4;
+        let count = length_at(input, at) / 2;
+        let head = state.head;
+        if head.is_full() {
             return self.faulted(state, Reason::Columns);
         }
-        if 64 < count {
+        if Column::MOST_BOUNDARIES < count {
             return self.faulted(state, Reason::BoundaryCount);
         }
-        let asked = state.asked;
-        let order = check_at(input, start, count, asked.height as usize);
+        let order = check_at(input, start, count, head.height as usize);
         if let Checked::Refused(refusal) = order {
             let reason = refusal.reason;
             return self.faulted(state, reason);
         }
-        self.at = start + len;
-        let state = state.counted();
-        Step {
-            read: Read::Column { start, count },
-            cursor: self,
-            state,
+        self.passed(input, Read::Column { start, count }, state.counted())
+    }
+
+    fn ending(self, input: &[u8], state: State) -> Step
+        requires { ⌜ Ready (now input) state (self .at) Kind.End ⌝ }
+        ensures { λ r. ⌜ toldStep r ≡ readBody (now (input .entry)) state (self .at) Kind.End ⌝ }
+    {
+        let columns = quad(input, self.at + 4);
+        let head = state.head;
+        if columns != head.columns {
+            return self.faulted(state, Fault::UNEQUAL);
+        }
+        self.passed(input, Read::End(columns), state.finish())
+    }
+
+    // A record whose frame was judged, by its kind.
+    fn by_kind(self, input: &[u8], state: State, kind: Kind) -> Step
+        requires { ⌜ Ready (now input) state (self .at) kind ⌝ }
+        ensures { λ r. ⌜ toldStep r ≡ readBody (now (input .entry)) state (self .at) kind ⌝ }
+    {
+        match kind {
+            Kind::Settings => self.settings(input, state),
+            Kind::Column => self.column(input, state),
+            Kind::End => self.ending(input, state),
+            Kind::Remark => self.passed(input, Read::Remark, state),
+            Kind::Refused => self.faulted(state, Fault::KIND_HERE),
         }
     }
 
-    // A record of which the first four bytes are there.
-    fn by_kind(self, input: &[u8], state: State) -> Step
-        requires { ⌜ self .at + 4 ≤ length (now input) ⌝ }
-        ensures { λ r. ⌜ toldStep r ≡ recordOf (now (input .entry)) state (self .at) (kindOf (le16 (now (input .entry)) (self .at + 2))) ⌝ }
+    // After the end record: the end again, where nothing is left.
+    fn past_end(self, input: &[u8], state: State) -> Step
+        ensures { λ r. ⌜ toldStep r ≡ moved state (self .at) (decided (tail (now (input .entry)) (self .at) ∷ []) (again state (self .at))) ⌝ }
     {
-        let at = self.at;
-        let len = word(input, at) as usize;
-        let kind = word(input, at + 2);
-        match kind {
-            1 => self.settings(input, state, len),
-            2 => self.column(input, state, len),
-            3 => self.ending(input, state, len),
-            32768..=65535 => self.remark(input, state, len),
-            _ => self.faulted(state, Reason::Malformed),
+        let rest = check_tail(input, self.at);
+        if let Checked::Refused(refusal) = rest {
+            let reason = refusal.reason;
+            return self.faulted(state, reason);
+        }
+        let head = state.head;
+        Step {
+            read: Read::End(head.columns),
+            cursor: self,
+            state,
         }
     }
 
@@ -256,298 +297,36 @@ impl Cursor {
     pub fn read(self, input: &[u8], state: State) -> Step
         ensures { λ r. ⌜ toldStep r ≡ readRecord (now (input .entry)) state (self .at) ⌝ }
     {
-        let at = self.at;
         let ended = state.ended;
         if ended {
-            if at < input.len() {
-                return self.faulted(state, Reason::Malformed);
-            }
-            let columns = state.columns;
-            return Step {
-                read: Read::End(columns),
-                cursor: self,
-                state,
-            };
+            return self.past_end(input, state);
         }
-        if input.len() <= at {
-            return self.faulted(state, Reason::Malformed);
+        let at = self.at;
+        let kind = Kind::of(kind_at(input, at));
+        let allowed = kind.is_allowed(state);
+        let right = kind.fits(length_at(input, at));
+        let frame = check_frame(input, at, allowed, right);
+        if let Checked::Refused(refusal) = frame {
+            let reason = refusal.reason;
+            return self.faulted(state, reason);
         }
-        if input.len() - at < 4 {
-            return self.faulted(state, Reason::Malformed);
-        }
-        self.by_kind(input, state)
-    }
-}
-
-// Two bytes, the lower first.
-fn word(input: &[u8], at: usize) -> u16
-    requires { ⌜ at + 2 ≤ length (now input) ⌝ }
-    ensures { λ r. ⌜ r ≡ le16 (now (input .entry)) at ⌝ }
-{
-    let low = input[at] as u16;
-    let high = input[at + 1] as u16;
-    low + 256 * high
-}
-
-// Four bytes, the lowest first.
-fn quad(input: &[u8], at: usize) -> u32
-    requires { ⌜ at + 4 ≤ length (now input) ⌝ }
-    ensures { λ r. ⌜ r ≡ le32 (now (input .entry)) at ⌝ }
-{
-    let low = word(input, at) as u32;
-    let high = word(input, at + 2) as u32;
-    low + 65536 * high
-}
-
-// A column's boundaries, out of the bytes from `start` on.
-fn decode(input: &[u8], start: usize, out: &mut [u16])
-    requires { ⌜ start + 2 * length (now out) ≤ length (now input) ⌝ }
-    ensures { λ _. ⌜ now (out .exit) ≡ words (now (input .entry)) start (length (now (out .entry))) ⌝ }
-{
-    let mut i = 0;
-    while i < out.len() {
-        out[i] = word(input, start + 2 * i);
-        i += 1;
+        self.by_kind(input, state, kind)
     }
 }
 
 // The order of a column that stands in the input: its boundaries are put into `out`, which is as long as they are.
 fn check_decoded(input: &[u8], start: usize, out: &mut [u16], height: usize) -> Checked
-    requires { ⌜ start + 2 * length (now out) ≤ length (now input) ⌝ }
     ensures { λ r. ⌜ saidBy r ≡ first (columnChecks height (words (now (input .entry)) start (length (now (out .entry))))) ⌝ }
 {
-    decode(input, start, out);
+    read_words(input, start, out);
     check_column(out, height)
 }
 
 // 4 and 5 of the column of `count` boundaries at `start`.
 fn check_at(input: &[u8], start: usize, count: usize, height: usize) -> Checked
-    requires { ⌜ (count ≤ 64) × (start + 2 * count ≤ length (now input)) ⌝ }
+    requires { ⌜ count ≤ mostBoundaries ⌝ }
     ensures { λ r. ⌜ saidBy r ≡ first (columnChecks height (words (now (input .entry)) start count)) ⌝ }
 {
-    let mut bounds = [0u16; 64];
+    let mut bounds = [0u16; Column::MOST_BOUNDARIES];
     check_decoded(input, start, &mut bounds[..count], height)
-}
-
-// ---- a whole file
-
-// What a record means for the file that it stands in: it is read on, it is whole, or it is refused.
-pub enum Heed {
-    Onward,
-    Whole,
-    Refused(Refusal),
-}
-
-// What a look through the whole file finds.
-pub enum Survey {
-    Whole(Asked),
-    Refused(Refusal),
-}
-
-// What goes with the table of a job: what its settings ask for, and its column count.
-pub struct Load {
-    pub asked: Asked,
-    pub tally: Tally,
-}
-
-// What reading a file into a table answers.
-pub enum Loaded {
-    Done(Load),
-    Refused(Refusal),
-}
-
-// Whether a table or a sheet of these settings has more than so many entries.
-fn is_large(asked: Asked, most: usize) -> bool
-    requires { ⌜ first (settingsChecks (asked .height) (asked .members)) ≡ none ⌝ }
-    ensures { λ r. ⌜ r ≡ (ltb most (cells (asked .height) (asked .members)) || ltb most (entries (asked .height) (asked .members))) ⌝ }
-{
-    let made = Settings::new(asked.height, asked.members);
-    match made {
-        Made::Bad(_) => false,
-        Made::Good(s) => {
-            if most < s.cells {
-                return true;
-            }
-            most < s.entries
-        }
-    }
-}
-
-fn heed_refused(reason: Reason, place: usize) -> Heed
-    ensures { λ r. ⌜ r ≡ Heed.Refused (record { reason = reason; place = place }) ⌝ }
-{
-    Heed::Refused(Refusal {
-        reason,
-        place: place as u64,
-    })
-}
-
-// What the record at `at`, which was read, means for its file.
-fn judge(step: Step, at: usize, input: &[u8], most: usize) -> Heed
-    requires { ⌜ Sane (toldStep step .told) ⌝ }
-    ensures { λ r. ⌜ Heeded r most (now (input .entry)) at (toldStep step) ⌝ }
-{
-    let read = step.read;
-    match read {
-        Read::Fault { reason, place } => heed_refused(reason, place),
-        Read::End(_) => {
-            let cursor = step.cursor;
-            let next = cursor.at;
-            if next < input.len() {
-                return heed_refused(Reason::Malformed, next);
-            }
-            Heed::Whole
-        }
-        Read::Settings(asked) => {
-            if is_large(asked, most) {
-                return heed_refused(Reason::TooLarge, at);
-            }
-            Heed::Onward
-        }
-        Read::Column { start: _, count: _ } => Heed::Onward,
-        Read::Remark => Heed::Onward,
-    }
-}
-
-// Looks through the whole file and writes nothing.
-fn look_through(input: &[u8], most: usize) -> Survey
-    ensures { λ r. ⌜ Surveyed r (jobOf most (now (input .entry))) ⌝ }
-{
-    let mut cursor = Cursor::new();
-    let mut state = State::new();
-    loop {
-        let at = cursor.at;
-        let step = cursor.read(input, state);
-        let heed = judge(step, at, input, most);
-        match heed {
-            Heed::Refused(refusal) => {
-                return Survey::Refused(refusal);
-            }
-            Heed::Whole => {
-                let last = step.state;
-                let asked = last.asked;
-                return Survey::Whole(asked);
-            }
-            Heed::Onward => {
-                cursor = step.cursor;
-                state = step.state;
-            }
-        }
-    }
-}
-
-// Adds the column that stands at `start`: its boundaries are put into `out`, which is as long as they are.
-fn add_decoded(
-    input: &[u8],
-    start: usize,
-    out: &mut [u16],
-    asked: Asked,
-    tally: Tally,
-    table: &mut [u32],
-) -> Tabled
-    requires { ⌜ start + 2 * length (now out) ≤ length (now input) ⌝ }
-    ensures { λ r. ⌜ Adds asked tally (words (now (input .entry)) start (length (now (out .entry)))) (toldTable r) (now (table .entry)) (now (table .exit)) ⌝ }
-{
-    decode(input, start, out);
-    add_column(table, asked.height, asked.members, tally, out)
-}
-
-// Adds the column of `count` boundaries at `start`.
-fn add_at(
-    input: &[u8],
-    start: usize,
-    count: usize,
-    asked: Asked,
-    tally: Tally,
-    table: &mut [u32],
-) -> Tabled
-    requires { ⌜ (count ≤ 64) × (start + 2 * count ≤ length (now input)) ⌝ }
-    ensures { λ r. ⌜ Adds asked tally (words (now (input .entry)) start count) (toldTable r) (now (table .entry)) (now (table .exit)) ⌝ }
-{
-    let mut bounds = [0u16; 64];
-    add_decoded(input, start, &mut bounds[..count], asked, tally, table)
-}
-
-// Adds what was read, where it is a column; it is never refused.
-fn add_read(input: &[u8], read: Read, asked: Asked, tally: Tally, table: &mut [u32]) -> Tally
-    requires { ⌜ Addable (now input) asked tally (now table) (toldRead read) ⌝ }
-    ensures { λ r. ⌜ (now (table .exit) ≡ addedAll asked (columnIn (now (input .entry)) (toldRead read)) (now (table .entry)))
-        × (r .columns ≡ tally .columns + length (columnIn (now (input .entry)) (toldRead read))) ⌝ }
-{
-    match read {
-        Read::Column { start, count } => {
-            let tabled = add_at(input, start, count, asked, tally, table);
-            match tabled {
-                Tabled::Done(more) => more,
-                Tabled::Refused(_) => tally,
-            }
-        }
-        Read::Settings(_) => tally,
-        Read::End(_) => tally,
-        Read::Remark => tally,
-        Read::Fault {
-            reason: _,
-            place: _,
-        } => tally,
-    }
-}
-
-// Adds the columns of a file that was looked through to a table that was cleared.
-fn fill(input: &[u8], most: usize, asked: Asked, table: &mut [u32]) -> Tally
-    requires { ⌜ Whole most asked (jobOf most (now input)) ⌝ }
-    requires { ⌜ (cells (asked .height) (asked .members) ≤ length (now table)) × (now table ≡ tableOf (asked .height) (asked .members) [] (now table)) ⌝ }
-    ensures { λ r. ⌜ (now (table .exit) ≡ tableOf (asked .height) (asked .members) (columnsIn (jobOf most (now (input .entry)))) (now (table .entry)))
-        × (r .columns ≡ length (columnsIn (jobOf most (now (input .entry))))) ⌝ }
-{
-    let mut cursor = Cursor::new();
-    let mut state = State::new();
-    let mut tally = Tally { columns: 0 };
-    loop {
-        let at = cursor.at;
-        let step = cursor.read(input, state);
-        let heed = judge(step, at, input, most);
-        match heed {
-            Heed::Refused(_) => {
-                return tally;
-            }
-            Heed::Whole => {
-                return tally;
-            }
-            Heed::Onward => {
-                let read = step.read;
-                tally = add_read(input, read, asked, tally, table);
-                cursor = step.cursor;
-                state = step.state;
-            }
-        }
-    }
-}
-
-// The file was looked through, and asks for this: 3, or the table.
-fn load_whole(input: &[u8], most: usize, asked: Asked, table: &mut [u32]) -> Loaded
-    requires { ⌜ Whole most asked (jobOf most (now input)) ⌝ }
-    ensures { λ r. ⌜ (toldLoad r ≡ loadAnswer (now (table .entry)) (jobOf most (now (input .entry))))
-        × (now (table .exit) ≡ loadTable (now (table .entry)) (jobOf most (now (input .entry)))) ⌝ }
-{
-    let cleared = clear_table(table, asked.height, asked.members);
-    match cleared {
-        Tabled::Refused(refusal) => Loaded::Refused(refusal),
-        Tabled::Done(_) => {
-            let tally = fill(input, most, asked, table);
-            Loaded::Done(Load { asked, tally })
-        }
-    }
-}
-
-// Reads a job file into a lent table: the file's refusals in its own order, with 17 straight after 1 and 2 where a table or a sheet of its
-// settings has more than `most` entries; then 3. The file is judged whole before the table is written.
-pub fn read_job(input: &[u8], most: usize, table: &mut [u32]) -> Loaded
-    ensures { λ r. ⌜ (toldLoad r ≡ loadAnswer (now (table .entry)) (jobOf most (now (input .entry))))
-        × (now (table .exit) ≡ loadTable (now (table .entry)) (jobOf most (now (input .entry)))) ⌝ }
-{
-    let survey = look_through(input, most);
-    match survey {
-        Survey::Refused(refusal) => Loaded::Refused(refusal),
-        Survey::Whole(asked) => load_whole(input, most, asked, table),
-    }
 }

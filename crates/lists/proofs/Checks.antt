@@ -84,3 +84,12 @@ module _ {R : Type 0} where
       go : (b : Bool) → cond b (some (c .says)) (first (cs ++ ds)) ≡ none → (first (cs ++ ds) ≡ none → first ds ≡ none) → first ds ≡ none
       go true q k = absurd (let z : _≡_ {A = ℕ} 0 1 = cc in omega arith)
       go false q k = k q
+
+  -- nor of the first
+  pub first-earlier : (cs ds : List (Check R)) → first (cs ++ ds) ≡ none → first cs ≡ none
+  first-earlier [] ds e = refl
+  first-earlier (c ∷ cs) ds e = go (c .holds) e (first-earlier cs ds)
+    where
+      go : (b : Bool) → cond b (some (c .says)) (first (cs ++ ds)) ≡ none → (first (cs ++ ds) ≡ none → first cs ≡ none) → cond b (some (c .says)) (first cs) ≡ none
+      go true q k = absurd (let z : _≡_ {A = ℕ} 0 1 = cc in omega arith)
+      go false q k = k q

@@ -13,9 +13,10 @@ use lib.ListN.{length}
 use lib.Seq.{ext-getD}
 use lib.IntN.{ℤ, pos, natAbs, _-ℤ_}
 use Rattle.paper.specs.Layer.{Plate, allowed, tmin}
-use Rattle.paper.specs.Sequence.{_!_, count, thickness, Admissible, errorUnder, error, M, Chosen, None}
+use Rattle.paper.specs.Sequence.{_!_, count, thickness, Stack, Admissible, errorUnder, error, M, Chosen, None}
 use Rattle.paper.specs.Sheets.{missing, Ending}
 use Rattle.paper.proofs.Thicknesses.{and-true, tmin-least}
+use Rattle.paper.proofs.Counts.{counts-most}
 use Rattle.plate.specs.Datum.{datum, heightOf}
 use Rattle.plate.proofs.Datum.{lt-down, difference-height}
 use Rattle.sequence.specs.Sequence as working
@@ -24,11 +25,12 @@ use Rattle.sequence.specs.Rules.{shape}
 use Rattle.sequence.specs.Least.{chosen}
 use Rattle.sequence.specs.Sheets.{mark}
 use Rattle.sequence.proofs.Choice.{chosen-is, chosen-none, chosen-exact, chosen-exists, chosen-least-of, least-of}
-use Rattle.sequence.proofs.Bounds.{count-le}
-use Rattle.sequence.proofs.Sheets.{shape-allowed}
+use Rattle.sequence.proofs.Bounds.{count-most}
+use Rattle.sequence.proofs.Layers.{shape-allowed}
 use Rattle.meaning.specs.Working.{rulesOf, heightsOf, boundariesOf, found, foundError}
 use Rattle.meaning.proofs.Sequence.{layersUnder, length-under, ends-up, ends-down, Down, before-up, before-down}
-use Rattle.meaning.proofs.Sheets.{place-top, length-up, layers-up, error-up, ending-up, at-datum, built-at}
+use Rattle.meaning.proofs.Stacks.{at-datum}
+use Rattle.meaning.proofs.Sheets.{place-top, length-up, layers-up, error-up, ending-up, built-at}
 
 pub length-count : (n : ℕ) (zs : List ℤ) → 1 ≤ n → count zs ≡ n → length zs ≡ suc n
 length-count n [] l e = absurd (omega arith)
@@ -43,11 +45,7 @@ pub admissible-ending : (p : Plate) (bound : ℕ) (zs : List ℤ) → Admissible
 admissible-ending p bound zs a = record {
   counts = length-count (count zs) zs (a .layered) refl;
   ends = refl;
-  rising = a .rising;
-  starts-above = a .starts-above;
-  starts-by = a .starts-by;
-  differences = a .differences;
-  bounded = a .bounded;
+  stack = a .stack;
 }
 
 module _ (p : Plate) (bound n : ℕ) (some-layer : 1 ≤ n) where
@@ -79,26 +77,22 @@ module _ (p : Plate) (bound n : ℕ) (some-layer : 1 ≤ n) where
             layers = c;
             admissible = record {
               layered = omega (arith, k, some-layer);
-              rising = rw k (e .rising);
-              starts-above = e .starts-above;
-              starts-by = e .starts-by;
+              stack = rw k (e .stack);
               ends-from = rw (k, e .ends) (ends-up p bound (s .top) (a .ends) .0);
               ends-below = rw (k, e .ends) (ends-up p bound (s .top) (a .ends) .1);
-              differences = rw k (e .differences);
-              bounded = rw k (e .bounded);
             };
             counts = k;
             its = ap (errorUnder p zs) k ∙ r;
           }
 
   -- the boundaries are what the top and the thicknesses give
-  places-back : (zs : List ℤ) (z : ℤ) → Ending p bound n z zs → (k : ℕ) → k ≤ n → (h : ℕ) (above : List ℕ) → zs ! k ≡ heightOf h
+  places-back : (zs : List ℤ) → Stack p bound zs n → (k : ℕ) → k ≤ n → (h : ℕ) (above : List ℕ) → zs ! k ≡ heightOf h
       → (j : ℕ) → j ≤ k → heightsOf (upFrom h (layersUnder zs k) above) ! j ≡ zs ! j
-  places-back zs z a zero l h above e zero m = sym e
-  places-back zs z a zero l h above e (suc j) m = absurd (omega arith)
-  places-back zs z a (suc k) l h above e j m =
-      go (datum (zs ! k)) (at-datum p bound n z zs a k (omega arith)) (ℕ-discrete j (suc k))
-      (λ g f u. places-back zs z a k (omega arith) g (h ∷ above) f j u)
+  places-back zs a zero l h above e zero m = sym e
+  places-back zs a zero l h above e (suc j) m = absurd (omega arith)
+  places-back zs a (suc k) l h above e j m =
+      go (datum (zs ! k)) (at-datum p bound zs n a k (omega arith)) (ℕ-discrete j (suc k))
+      (λ g f u. places-back zs a k (omega arith) g (h ∷ above) f j u)
     where
       go : (g : ℕ) → zs ! k ≡ heightOf g → Dec (j ≡ suc k)
           → ((g : ℕ) → zs ! k ≡ heightOf g → j ≤ k → heightsOf (upFrom g (layersUnder zs k) (h ∷ above)) ! j ≡ zs ! j)
@@ -122,7 +116,7 @@ module _ (p : Plate) (bound n : ℕ) (some-layer : 1 ≤ n) where
       down = record { top = e; layers = refl };
       back =
           ext-getD (pos 0) _ zs (omega (arith, b, en .counts))
-          (λ i l. places-back zs (zs ! n) en n (omega arith) h [] e i (omega (arith, b)));
+          (λ i l. places-back zs (en .stack) n (omega arith) h [] e i (omega (arith, b)));
       works = record { ends = ends-down p bound h (rw (← e, ← c) (a .ends-from)) (rw (← e, ← c) (a .ends-below)); built = w .0 };
       layers = length-under zs n;
       admissible = a;
@@ -138,10 +132,10 @@ module _ (p : Plate) (bound n : ℕ) (some-layer : 1 ≤ n) where
       h = datum (zs ! n)
 
       e : zs ! n ≡ heightOf h
-      e = at-datum p bound n (zs ! n) zs en n (omega arith)
+      e = at-datum p bound zs n (en .stack) n (omega arith)
 
       w : working.Built (rulesOf p bound) h (layersUnder zs n) × (working.errorOf (rulesOf p bound) h (layersUnder zs n) ≡ errorUnder p zs n)
-      w = built-at p bound n (zs ! n) zs en n (omega arith) h e
+      w = built-at p bound n zs (en .stack) (rw c at (a .ends-below)) n (omega arith) h e
 
       b : length (heightsOf (upFrom h (layersUnder zs n) [])) ≡ suc n
       b = length-up h (layersUnder zs n) [] ∙ omega (arith, length-under zs n)
@@ -239,13 +233,12 @@ module _ (p : Plate) (bound n : ℕ) (some-layer : 1 ≤ n) where
   pub listed-none : None p bound n → mark (foundError p bound n) ≡ missing
   listed-none f = ap mark (none-error (found-none .1 f))
 
--- 'The greatest count asked for, M, is (N+2·tmax-2)/tmin rounded down': no admissible sequence has more layers
+-- 'The greatest count asked for, M': no admissible sequence has more layers
 pub count-in-range : (p : Plate) (bound : ℕ) (zs : List ℤ) → Admissible p bound zs → count zs ≤ M (p .N) (p .T)
-unfolding M
 count-in-range p bound zs a =
     let w = to-working p bound (count zs) (a .layered) zs a refl in
-    let b = tmin-least (p .T) (thickness zs 0) (a .differences 0 (a .layered)) in
-    omega (arith, count-le (rulesOf p bound) (tmin (p .T)) (b .0) thick (w .0) (w .1 .works), w .1 .layers)
+    let b = tmin-least (p .T) (thickness zs 0) (a .stack .differences 0 (a .layered)) in
+    rw (← w .1 .layers) (counts-most (p .N) (p .T) (working.count (w .0)) (b .0) (count-most (rulesOf p bound) (tmin (p .T)) thick (w .0) (w .1 .works)))
   where
     thick : (h t : ℕ) → working.Layer (rulesOf p bound) h t → tmin (p .T) ≤ t
     thick h t l =

@@ -1,4 +1,5 @@
 pub mod Sequence
+pub mod Stacks
 pub mod Sheets
 pub mod Choice
 pub mod Usable

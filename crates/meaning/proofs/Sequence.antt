@@ -1,6 +1,6 @@
--- One layer, the two ends and the order of sequences, as document 01 has them and as they are worked with: each is the same thing said
--- at heightOf h and at h, so each is carried over by the laws of the datum. Both orders compare the layers from the last down.
--- Assumes nothing.
+-- The shape of a layer, one layer, the two ends and the order of sequences, as document 01 has them and as they are worked with: each is the
+-- same thing said at heightOf h and at h, so each is carried over by the laws of the datum. Both orders compare the layers from the last
+-- down. Assumes nothing.
 use Prim.Native.Nat.{ℕ, zero, suc, _+_, _-_, _≤_, _<_}
 use mathlib.Core.Path.{_≡_, refl, sym, ap, _∙_}
 use mathlib.Core.Logic.{inl, inr}
@@ -14,15 +14,31 @@ use lib.Signed.{_≤ℤ_, _<ℤ_}
 use borrow.Author.Tests.{leb-true, le-leb}
 use Rattle.paper.specs.Layer.{Plate, allowed, tmax}
 use Rattle.paper.specs.Sequence.{_!_, thickness, Thinner, Before}
+use Rattle.paper.specs.Groups.{Usable}
 use Rattle.paper.proofs.Thicknesses.{and-true, tmax-le, allowed-tmax}
 use Rattle.plate.specs.Datum.{datum, heightOf}
-use Rattle.plate.proofs.Datum.{le-up, le-down, lt-up, lt-down, height-only, difference-height, pos-height, neg-height, datum-above}
+use Rattle.plate.proofs.Datum.{le-up, le-down, lt-up, lt-down, height-only, difference-height, sum-height, pos-height, neg-height, datum-above}
 use Rattle.sequence.specs.Sequence as working
 use Rattle.sequence.specs.Rules.{shape}
-use Rattle.sequence.proofs.Sheets.{shape-allowed}
+use Rattle.sequence.proofs.Layers.{start-in, start-from, start-to, shape-in, shape-allowed, shape-from, shape-to}
 use Rattle.meaning.specs.Working.{rulesOf}
 
 -- ---- one layer
+
+-- a layer has the shape of one exactly where a sequence can have it
+module _ (N T h t : ℕ) where
+  pub shape-up : shape N T h t ≡ true → Usable N T (heightOf h) t
+  shape-up e = record {
+    from = rw (neg-height (tmax T) (tmax-le T)) (lt-up (32 - tmax T) h (omega (arith, shape-from N T h t e, tmax-le T)));
+    to = rw (sum-height h t, pos-height (N + tmax T)) (lt-up (h + t) (N + tmax T + 32) (omega (arith, shape-to N T h t e)));
+    member = shape-allowed N T h t e;
+  }
+
+  pub shape-down : Usable N T (heightOf h) t → shape N T h t ≡ true
+  shape-down u =
+      let l = lt-down (32 - tmax T) h (rw (neg-height (tmax T) (tmax-le T)) at (u .from)) in
+      let e = lt-down (h + t) (N + tmax T + 32) (rw (sum-height h t, pos-height (N + tmax T)) at (u .to)) in
+      shape-in N T h t (u .member) (omega arith) (omega arith)
 
 -- what holds between each boundary and the next, from the lowest up, holds at each place
 abbrev pub Steps : (ℤ → ℤ → Type 0) → ℤ → List ℤ → Type 0
@@ -56,27 +72,29 @@ module _ (p : Plate) (bound : ℕ) where
       let m = and-true (shape (p .N) (p .T) a (b - a)) (leb (p .layerError (heightOf a) (b - a)) bound) (s .permitted) in
       record { rises = lt-up a b (s .rises); member = rw d (shape-allowed (p .N) (p .T) a (b - a) (m .0)); within = rw d (leb-true _ _ (m .1)) }
 
-  pub step-down : (a b : ℕ) → Step (heightOf a) (heightOf b) → WorkingStep a b
-  unfolding shape
-  step-down a b s =
+  pub step-down : (a b : ℕ) → Usable (p .N) (p .T) (heightOf a) (b - a) → Step (heightOf a) (heightOf b) → WorkingStep a b
+  step-down a b u s =
       let l = lt-down a b (s .rises) in
       let d = difference-height a b (omega arith) in
-      let m = rw d at (s .member) in
       let w = rw d at (s .within) in
-      record { rises = l; thin = allowed-tmax (p .T) (b - a) m; permitted = simp (m, le-leb (p .layerError (heightOf a) (b - a)) bound w) }
+      record {
+        rises = l;
+        thin = allowed-tmax (p .T) (b - a) (u .member);
+        permitted = simp (shape-down (p .N) (p .T) a (b - a) u, le-leb (p .layerError (heightOf a) (b - a)) bound w);
+      }
 
   -- ---- the two ends
 
-  pub starts-up : (h : ℕ) → working.Starts (rulesOf p bound) h → (negℤ (pos (tmax (p .T))) <ℤ heightOf h) × (heightOf h ≤ℤ pos 0)
+  pub starts-up : (h : ℕ) → working.starts (tmax (p .T)) h ≡ true → (negℤ (pos (tmax (p .T))) <ℤ heightOf h) × (heightOf h ≤ℤ pos 0)
   starts-up h s = (
-    rw (neg-height (tmax (p .T)) (tmax-le (p .T))) (lt-up (32 - tmax (p .T)) h (let f = s .from in let m = tmax-le (p .T) in omega arith)),
-    rw (pos-height 0) (le-up h 32 (s .to)),
+    rw (neg-height (tmax (p .T)) (tmax-le (p .T))) (lt-up (32 - tmax (p .T)) h (omega (arith, start-from (tmax (p .T)) h s, tmax-le (p .T)))),
+    rw (pos-height 0) (le-up h 32 (start-to (tmax (p .T)) h s)),
   )
 
-  pub starts-down : (h : ℕ) → negℤ (pos (tmax (p .T))) <ℤ heightOf h → heightOf h ≤ℤ pos 0 → working.Starts (rulesOf p bound) h
+  pub starts-down : (h : ℕ) → negℤ (pos (tmax (p .T))) <ℤ heightOf h → heightOf h ≤ℤ pos 0 → working.starts (tmax (p .T)) h ≡ true
   starts-down h l m =
       let f = lt-down (32 - tmax (p .T)) h (rw (neg-height (tmax (p .T)) (tmax-le (p .T))) at l) in
-      record { from = omega arith; to = le-down h 32 m }
+      start-in (tmax (p .T)) h (omega arith) (le-down h 32 m)
 
   pub ends-up : (h : ℕ) → working.Ends (rulesOf p bound) h → (pos (p .N) ≤ℤ heightOf h) × (heightOf h <ℤ pos (p .N + tmax (p .T)))
   ends-up h e = (

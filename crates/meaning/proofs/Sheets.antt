@@ -3,25 +3,28 @@
 -- least error and the walk down, which are the least and the first of what can be built, are those of document 01. Assumes nothing.
 use Prim.Native.Nat.{ℕ, zero, suc, _+_, _-_, _≤_, _<_}
 use mathlib.Core.Path.{_≡_, refl, sym, ap, ap₂, _∙_, subst}
+use mathlib.Core.Bool.{true}
 use mathlib.Core.Option.{Option, none, some}
 use mathlib.Core.List.{List, [], _∷_}
 use native.Mathlib.Omega.{arith}
 use lib.ListN.{length, length-map}
-use lib.IntN.{ℤ, natAbs, _-ℤ_}
-use Rattle.lists.specs.Best.{Best, nothing, found, value, place}
+use lib.IntN.{ℤ, pos, natAbs, _-ℤ_}
+use lib.Signed.{_<ℤ_}
 use Rattle.paper.specs.Layer.{Plate, tmax}
-use Rattle.paper.specs.Sequence.{_!_, thickness, errorUnder, Thinner}
+use Rattle.paper.specs.Sequence.{_!_, thickness, Stack, errorUnder, Thinner}
 use Rattle.paper.specs.Sheets.{missing, Ending, ChosenAt, lastOf, Entries}
+use Rattle.paper.specs.Groups.{Usable}
 use Rattle.plate.specs.Datum.{datum, heightOf}
-use Rattle.plate.proofs.Datum.{height-datum, difference-height, datum-above}
+use Rattle.plate.proofs.Datum.{difference-height, pos-height, lt-up, lt-down}
 use Rattle.sequence.specs.Sequence as working
 use Rattle.sequence.specs.Sequence.{upFrom}
 use Rattle.sequence.specs.Least.{least, last, walk}
 use Rattle.sequence.specs.Sheets.{mark}
 use Rattle.sequence.proofs.Order.{first-antisym}
-use Rattle.sequence.proofs.Least.{row, AtMost, at-most-some, Walked, walk-is, least-le, walk-first}
+use Rattle.sequence.proofs.Least.{AtMost, at-most-some, Walked, walk-is, least-le, last-zero, last-none, walk-first}
 use Rattle.meaning.specs.Working.{rulesOf, heightsOf}
-use Rattle.meaning.proofs.Sequence.{Steps, step-at, Step, step-up, step-down, start-datum, starts-up, starts-down, layersUnder, length-under, thinner-first, first-thinner}
+use Rattle.meaning.proofs.Sequence.{Steps, step-at, Step, step-up, step-down, starts-up, starts-down, layersUnder, length-under, thinner-first, first-thinner}
+use Rattle.meaning.proofs.Stacks.{at-datum, layers-usable}
 
 -- ---- the places of boundaries that were listed from the top down
 
@@ -43,18 +46,18 @@ length-up h (t ∷ ts) above = let e = length-up (h - t) ts (h ∷ above) in ome
 module _ (p : Plate) (bound : ℕ) where
   -- ---- from the top down to the boundaries
 
-  abbrev Sound : List ℕ → Type 0
-  Sound [] = ⊥
-  Sound (a ∷ bs) = working.Starts (rulesOf p bound) a × Steps (Step p bound) (heightOf a) (heightsOf bs)
+  abbrev Standing : List ℕ → Type 0
+  Standing [] = ⊥
+  Standing (a ∷ bs) = (working.starts (tmax (p .T)) a ≡ true) × Steps (Step p bound) (heightOf a) (heightsOf bs)
 
-  sound : (h : ℕ) (ts above : List ℕ) → working.Built (rulesOf p bound) h ts → Steps (Step p bound) (heightOf h) (heightsOf above)
-      → Sound (upFrom h ts above)
-  sound h [] above b s = (b, s)
-  sound h (t ∷ ts) above b s =
+  standing : (h : ℕ) (ts above : List ℕ) → working.Built (rulesOf p bound) h ts → Steps (Step p bound) (heightOf h) (heightsOf above)
+      → Standing (upFrom h ts above)
+  standing h [] above b s = (b, s)
+  standing h (t ∷ ts) above b s =
       let x = b .0 .thick in
       let y = b .0 .above in
       let e : h - (h - t) ≡ t = omega arith in
-      sound (h - t) ts (h ∷ above) (b .1)
+      standing (h - t) ts (h ∷ above) (b .1)
       (step-up p bound (h - t) h (record { rises = omega arith; thin = rw e (b .0 .thin); permitted = rw e (b .0 .allowed) }), s)
 
   last-up : (h t : ℕ) (ts above : List ℕ) → t ≤ h → thickness (heightsOf (upFrom h (t ∷ ts) above)) (length ts) ≡ t
@@ -73,16 +76,18 @@ module _ (p : Plate) (bound : ℕ) where
       ap₂ _+_ (error-up (h - t) ts (h ∷ above) (b .1))
       (ap₂ (p .layerError) (place-top (h - t) ts (h ∷ above)) (last-up h t ts above (b .0 .above)))
 
-  ending-of : (hs : List ℕ) (m : ℕ) (z : ℤ) → Sound hs → length (heightsOf hs) ≡ suc m → heightsOf hs ! m ≡ z → Ending p bound m z (heightsOf hs)
+  ending-of : (hs : List ℕ) (m : ℕ) (z : ℤ) → Standing hs → length (heightsOf hs) ≡ suc m → heightsOf hs ! m ≡ z → Ending p bound m z (heightsOf hs)
   ending-of [] m z s l e = absurd s
   ending-of (a ∷ bs) m z s l e = record {
     counts = l;
     ends = e;
-    rising = λ k u. at k u .rises;
-    starts-above = starts-up p bound a (s .0) .0;
-    starts-by = starts-up p bound a (s .0) .1;
-    differences = λ k u. at k u .member;
-    bounded = λ k u. at k u .within;
+    stack = record {
+      rising = λ k u. at k u .rises;
+      starts-above = starts-up p bound a (s .0) .0;
+      starts-by = starts-up p bound a (s .0) .1;
+      differences = λ k u. at k u .member;
+      bounded = λ k u. at k u .within;
+    };
   }
     where
       at : (k : ℕ) → k < m → Step p bound (heightsOf (a ∷ bs) ! k) (heightsOf (a ∷ bs) ! suc k)
@@ -90,26 +95,15 @@ module _ (p : Plate) (bound : ℕ) where
 
   pub ending-up : (h : ℕ) (ts : List ℕ) → working.Built (rulesOf p bound) h ts → Ending p bound (length ts) (heightOf h) (heightsOf (upFrom h ts []))
   ending-up h ts b =
-      ending-of (upFrom h ts []) (length ts) (heightOf h) (sound h ts [] b tt) (let e = length-up h ts [] in omega arith) (place-top h ts [])
+      ending-of (upFrom h ts []) (length ts) (heightOf h) (standing h ts [] b tt) (let e = length-up h ts [] in omega arith) (place-top h ts [])
 
   -- ---- and back
 
-  module _ (m : ℕ) (z : ℤ) (zs : List ℤ) (a : Ending p bound m z zs) where
-    -- every boundary is above the datum
-    pub over-start : (k : ℕ) → k ≤ m → 32 - tmax (p .T) < datum (zs ! k)
-    over-start zero l = start-datum (p .T) (zs ! 0) (a .starts-above)
-    over-start (suc k) l =
-        let o = over-start k (omega arith) in
-        let e = height-datum (zs ! k) (omega arith) in
-        omega (arith, datum-above (datum (zs ! k)) (zs ! suc k) (rw e (a .rising k (omega arith))))
-
-    pub at-datum : (k : ℕ) → k ≤ m → zs ! k ≡ heightOf (datum (zs ! k))
-    at-datum k l = sym (height-datum (zs ! k) (omega (arith, over-start k l)))
-
+  module _ (m : ℕ) (zs : List ℤ) (a : Stack p bound zs m) (low : zs ! m <ℤ pos (p .N + tmax (p .T))) where
     pub built-at : (k : ℕ) → k ≤ m → (h : ℕ) → zs ! k ≡ heightOf h
         → working.Built (rulesOf p bound) h (layersUnder zs k) × (working.errorOf (rulesOf p bound) h (layersUnder zs k) ≡ errorUnder p zs k)
     built-at zero l h e = (starts-down p bound h (rw (← e) (a .starts-above)) (rw (← e) (a .starts-by)), refl)
-    built-at (suc k) l h e = go (datum (zs ! k)) (at-datum k (omega arith)) (λ g. built-at k (omega arith) g)
+    built-at (suc k) l h e = go (datum (zs ! k)) (at-datum p bound zs m a k (omega arith)) (λ g. built-at k (omega arith) g)
       where
         go : (g : ℕ) → zs ! k ≡ heightOf g
             → ((g : ℕ) → zs ! k ≡ heightOf g
@@ -122,9 +116,10 @@ module _ (p : Plate) (bound : ℕ) where
               member = a .differences k (omega arith);
               within = a .bounded k (omega arith);
             } in
-            let w = step-down p bound g h (rw (f, e) at s) in
-            let l = w .rises in
+            let r = lt-down g h (rw (f, e) at (a .rising k (omega arith))) in
             let t : thickness zs k ≡ h - g = ap₂ (λ x y. natAbs (x -ℤ y)) e f ∙ difference-height g h (omega arith) in
+            let u : Usable (p .N) (p .T) (heightOf g) (h - g) = rw (t, f) at (layers-usable p bound zs m a low k (omega arith)) in
+            let w = step-down p bound g h u (rw (f, e) at s) in
             let b : h - (h - g) ≡ g = omega arith in
             let i = ih g f in (
               rw (t, b) (record { thick = omega arith; thin = w .thin; above = omega arith; allowed = rw b (w .permitted) }, i .0),
@@ -132,7 +127,7 @@ module _ (p : Plate) (bound : ℕ) where
             )
 
   -- ---- one height and one count
-  module _ (m h : ℕ) where
+  module _ (m h : ℕ) (high : h < p .N + tmax (p .T) + 32) where
     -- the layers of a sequence that ends there, and the least error there
     record Below (zs : List ℤ) : Type 0 where
       built : working.Built (rulesOf p bound) h (layersUnder zs m)
@@ -143,7 +138,7 @@ module _ (p : Plate) (bound : ℕ) where
 
     below : (zs : List ℤ) → Ending p bound m (heightOf h) zs → Below zs
     below zs a =
-        let b = built-at m (heightOf h) zs a m (omega arith) h (a .ends) in
+        let b = built-at m zs (a .stack) (rw (a .ends, pos-height (p .N + tmax (p .T))) (lt-up h (p .N + tmax (p .T) + 32) high)) m (omega arith) h (a .ends) in
         let x = at-most-some _ _
         (subst (λ (k : ℕ). AtMost (least (rulesOf p bound) k h) (working.errorOf (rulesOf p bound) h (layersUnder zs m))) (length-under zs m)
         (least-le (rulesOf p bound) h (layersUnder zs m) (b .0))) in
@@ -194,17 +189,8 @@ module _ (p : Plate) (bound : ℕ) where
 
     last-is : (k : ℕ) (zs : List ℤ) → layersUnder zs k ≡ walk (rulesOf p bound) k h → last (rulesOf p bound) k h ≡ lastOf zs k
     unfolding walk last
-    last-is zero zs e = refl
+    last-is zero zs e = last-zero (rulesOf p bound) h
     last-is (suc k) zs e = cc
-
-    no-place : (b : Best) → value b ≡ none → place b ≡ 0
-    no-place nothing q = refl
-    no-place (found e t) q = absurd (let z : _≡_ {A = ℕ} 0 1 = cc in omega arith)
-
-    last-none : (k : ℕ) → least (rulesOf p bound) k h ≡ none → last (rulesOf p bound) k h ≡ 0
-    unfolding least last
-    last-none zero q = refl
-    last-none (suc k) q = no-place (row (rulesOf p bound) k h) q
 
     -- 'A plan fills, for each height and each count, the least error of that many layers ending there, started as above and within the
     -- bound, and the last thickness of the chosen one. Where none exists the error is 2^64-1 and the thickness 0.'
@@ -227,7 +213,7 @@ module _ (p : Plate) (bound : ℕ) where
           where
             go : (o : Option ℕ) → least (rulesOf p bound) m h ≡ o
                 → (mark (least (rulesOf p bound) m h) ≡ missing) × (last (rulesOf p bound) m h ≡ 0)
-            go none q = (ap mark q, last-none m q)
+            go none q = (ap mark q, last-none (rulesOf p bound) m h q)
             go (some e) q = absurd (n walked (leads e q .chosen .ending))
 
     -- and nothing else is
@@ -237,7 +223,7 @@ module _ (p : Plate) (bound : ℕ) where
         go : (o : Option ℕ) → least (rulesOf p bound) m h ≡ o → (e ≡ mark (least (rulesOf p bound) m h)) × (t ≡ last (rulesOf p bound) m h)
         go none q =
             let x = n .none (λ zs a. let i = below zs a .is in let z : _≡_ {A = ℕ} 0 1 = cc in omega arith) in
-            (x .0 ∙ sym (ap mark q), x .1 ∙ sym (last-none m q))
+            (x .0 ∙ sym (ap mark q), x .1 ∙ sym (last-none (rulesOf p bound) m h q))
         go (some d) q =
             let l = leads d q .chosen in
             let x = n .chosen walked l in

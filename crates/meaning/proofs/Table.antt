@@ -11,7 +11,7 @@ use lib.Arith.{digits-lt, digits-div, digits-mod}
 use lib.IntN.{ℤ, pos, _+ℤ_, _-ℤ_, +ℤ-negℤ-cancel}
 use lib.ListN.{getD}
 use Rattle.paper.specs.Layer.{Plate, tmax}
-use Rattle.paper.specs.Table.{rows, cells, startAt, thicknessAt, cellOf, Table, natural, cellAt, ofTable}
+use Rattle.paper.specs.Table.{rows, cells, cellIndex, startAt, thicknessAt, cellOf, Table, natural, cellAt, ofTable}
 use Rattle.paper.specs.Sequence.{Chosen, None}
 use Rattle.paper.specs.Groups.{Usable, sumOf, Divided}
 use Rattle.paper.proofs.Thicknesses.{allowed-from, allowed-tmax}
@@ -27,7 +27,7 @@ rowAt T z = natural (z +ℤ pos (tmax T - 1))
 
 -- the index that `cellAt` looks at
 abbrev pub index : ℕ → ℤ → ℕ → ℕ
-index T z t = rowAt T z * tmax T + (t - 1)
+index T z t = cellIndex (tmax T) (rowAt T z) t
 
 module _ (N T : ℕ) (z : ℤ) (t : ℕ) (u : Usable N T z t) where
   -- the two digits of the index

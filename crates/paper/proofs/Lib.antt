@@ -1,1 +1,3 @@
 pub mod Thicknesses
+pub mod Counts
+pub mod Shares

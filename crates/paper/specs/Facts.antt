@@ -6,7 +6,7 @@ use mathlib.Core.Bool.{Bool, false}
 use mathlib.Core.List.{List, [], _∷_}
 use lib.IntN.{ℤ, pos, negℤ}
 use lib.Ieee.{Float}
-use Rattle.paper.specs.Layer.{Plate, ofColumns, share, filled, shares}
+use Rattle.paper.specs.Layer.{Plate, Column, columnOf, ofColumns, share, filled, shares}
 use Rattle.paper.specs.Table.{cells, startAt, thicknessAt, cellOf}
 use Rattle.paper.specs.Sequence.{error, M, Chosen, None}
 use Rattle.paper.specs.Motor.{Times, MotorHeight}
@@ -17,10 +17,10 @@ A = 1 ∷ 4 ∷ []
 abbrev pub B : List ℕ
 B = 0 ∷ 3 ∷ []
 
-abbrev pub both : List (List ℕ)
-both = A ∷ B ∷ []
+abbrev pub both : List Column
+both = columnOf A ∷ columnOf B ∷ []
 
-abbrev pub plate : List (List ℕ) → Plate
+abbrev pub plate : List Column → Plate
 plate columns = ofColumns 4 6 columns
 
 -- no bound in effect
@@ -38,8 +38,8 @@ pub data Fact : Type 0 where
   -- a column of no boundaries
   empty : Fact
   -- columns, bound, count: the error and the boundaries of the chosen sequence; or none
-  plan : List (List ℕ) → ℕ → ℕ → ℕ → List ℤ → Fact
-  none : List (List ℕ) → ℕ → ℕ → Fact
+  plan : List Column → ℕ → ℕ → ℕ → List ℤ → Fact
+  none : List Column → ℕ → ℕ → Fact
   -- the greatest count
   counts : ℕ → Fact
   -- a step and a boundary: the motor height in thousandths
@@ -70,8 +70,8 @@ facts =
     ∷ empty
     -- P7 to P9
     ∷ plan both free 2 2 (pos 0 ∷ pos 2 ∷ pos 4 ∷ [])
-    ∷ plan (A ∷ []) free 2 0 (minus 1 ∷ pos 1 ∷ pos 4 ∷ [])
-    ∷ plan (B ∷ []) free 2 0 (pos 0 ∷ pos 3 ∷ pos 5 ∷ [])
+    ∷ plan (columnOf A ∷ []) free 2 0 (minus 1 ∷ pos 1 ∷ pos 4 ∷ [])
+    ∷ plan (columnOf B ∷ []) free 2 0 (pos 0 ∷ pos 3 ∷ pos 5 ∷ [])
     -- P10 to P12
     ∷ none both 0 2
     ∷ plan both 1 2 2 (pos 0 ∷ pos 2 ∷ pos 4 ∷ [])

@@ -8,10 +8,11 @@ use lib.Dec.{leb, ltb, eqb}
 use lib.ListN.{length, getD}
 use lib.IntN.{ℤ, pos, _+ℤ_}
 use lib.Signed.{leZ, _<ℤ_}
+use Rattle.paper.specs.Limits.{leastHeight, greatestHeight, mostThickness, mostBoundaries}
 
 -- T is 32 bits: bit k - 1 set means that thickness k is allowed (1 to 32)
 unfoldable pub allowed : ℕ → ℕ → Bool
-allowed T k = leb 1 k && (leb k 32 && eqb (T / 2 ^ (k - 1) % 2) 1)
+allowed T k = leb 1 k && (leb k mostThickness && eqb (T / 2 ^ (k - 1) % 2) 1)
 
 -- tmin and tmax are its least and greatest members, 0 where it has none
 
@@ -21,7 +22,7 @@ leastAbove T k zero = 0
 leastAbove T k (suc n) = cond (allowed T (suc k)) (suc k) (leastAbove T (suc k) n)
 
 unfoldable pub tmin : ℕ → ℕ
-tmin T = leastAbove T 0 32
+tmin T = leastAbove T 0 mostThickness
 
 -- the greatest of the members 1 to k
 unfoldable pub greatestTo : ℕ → ℕ → ℕ
@@ -29,23 +30,30 @@ greatestTo T zero = 0
 greatestTo T (suc k) = cond (allowed T (suc k)) (suc k) (greatestTo T k)
 
 unfoldable pub tmax : ℕ → ℕ
-tmax T = greatestTo T 32
+tmax T = greatestTo T mostThickness
 
 -- settings are a height N, at least 1 and at most 512 units, and a thickness set T of 32 bits, which is not empty
 pub record Settings (N T : ℕ) : Type 0 where
-  pub least-height : 1 ≤ N
-  pub greatest-height : N ≤ 512
+  pub least-height : leastHeight ≤ N
+  pub greatest-height : N ≤ greatestHeight
   pub bits : T < 2 ^ 32
   pub some-thickness : 1 ≤ tmax T
 
--- a column is a list of 0 to 64 boundaries, an even number of them, strictly rising, each from 0 to N
-pub record Column (N : ℕ) (bs : List ℕ) : Type 0 where
-  pub few : length bs ≤ 64
-  pub even : length bs % 2 ≡ 0
-  pub rising : (k : ℕ) → suc k < length bs → getD bs k 0 < getD bs (suc k) 0
-  pub within : (k : ℕ) → k < length bs → getD bs k 0 ≤ N
+-- a column: its boundaries
+pub record Column : Type 0 where
+  pub boundaries : List ℕ
 
--- how many boundaries of a column are at or below z
+abbrev pub columnOf : List ℕ → Column
+columnOf bs = record { boundaries = bs }
+
+-- a column is a list of 0 to 64 boundaries, an even number of them, strictly rising, each from 0 to N
+pub record IsColumn (N : ℕ) (column : Column) : Type 0 where
+  pub few : length (column .boundaries) ≤ mostBoundaries
+  pub even : length (column .boundaries) % 2 ≡ 0
+  pub rising : (k : ℕ) → suc k < length (column .boundaries) → getD (column .boundaries) k 0 < getD (column .boundaries) (suc k) 0
+  pub within : (k : ℕ) → k < length (column .boundaries) → getD (column .boundaries) k 0 ≤ N
+
+-- how many boundaries are at or below z
 abbrev pub atOrBelow : List ℕ → ℤ → ℕ
 atOrBelow [] z = 0
 atOrBelow (b ∷ bs) z = cond (leZ (pos b) z) 1 0 + atOrBelow bs z
@@ -78,9 +86,9 @@ abbrev pub filled : List ℕ → ℤ → ℕ → Bool
 filled bs z t = ltb (outsideCount bs z t) (insideCount bs z t)
 
 -- a layer's error is the sum of its shares
-abbrev pub shares : List (List ℕ) → ℤ → ℕ → ℕ
+abbrev pub shares : List Column → ℤ → ℕ → ℕ
 shares [] z t = 0
-shares (bs ∷ columns) z t = share bs z t + shares columns z t
+shares (column ∷ columns) z t = share (column .boundaries) z t + shares columns z t
 
 -- a plate to be planned: its settings, and the error of each of its layers, from z and of thickness t
 pub record Plate : Type 0 where
@@ -89,5 +97,5 @@ pub record Plate : Type 0 where
   pub layerError : ℤ → ℕ → ℕ
 
 -- the plate of these columns
-abbrev pub ofColumns : ℕ → ℕ → List (List ℕ) → Plate
+abbrev pub ofColumns : ℕ → ℕ → List Column → Plate
 ofColumns N T columns = record { N = N; T = T; layerError = shares columns }

@@ -1,3 +1,4 @@
+pub mod Limits
 pub mod Layer
 pub mod Table
 pub mod Sequence

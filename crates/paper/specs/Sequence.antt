@@ -27,20 +27,26 @@ thickness zs k = natAbs (zs ! suc k -ℤ zs ! k)
 abbrev pub errorAt : Plate → List ℤ → ℕ → ℕ
 errorAt p zs k = p .layerError (zs ! k) (thickness zs k)
 
-pub record Admissible (p : Plate) (bound : ℕ) (zs : List ℤ) : Type 0 where
-  -- boundaries z0 < z1 < .. < zn with n ≥ 1
-  pub layered : 1 ≤ count zs
-  pub rising : (k : ℕ) → k < count zs → zs ! k <ℤ zs ! suc k
+-- m layers over one another, started and within the bound as an admissible sequence's are: what such a sequence and the layers counted in
+-- an entry of a sheet share
+pub record Stack (p : Plate) (bound : ℕ) (zs : List ℤ) (m : ℕ) : Type 0 where
+  -- boundaries z0 < z1 < .. < zm
+  pub rising : (k : ℕ) → k < m → zs ! k <ℤ zs ! suc k
   -- -tmax < z0 ≤ 0
   pub starts-above : negℤ (pos (tmax (p .T))) <ℤ zs ! 0
   pub starts-by : zs ! 0 ≤ℤ pos 0
+  -- every difference is in T
+  pub differences : (k : ℕ) → k < m → allowed (p .T) (thickness zs k) ≡ true
+  -- every layer's error is at most the bound
+  pub bounded : (k : ℕ) → k < m → errorAt p zs k ≤ bound
+
+pub record Admissible (p : Plate) (bound : ℕ) (zs : List ℤ) : Type 0 where
+  -- boundaries z0 < z1 < .. < zn with n ≥ 1
+  pub layered : 1 ≤ count zs
+  pub stack : Stack p bound zs (count zs)
   -- N ≤ zn < N + tmax
   pub ends-from : pos (p .N) ≤ℤ zs ! count zs
   pub ends-below : zs ! count zs <ℤ pos (p .N + tmax (p .T))
-  -- every difference is in T
-  pub differences : (k : ℕ) → k < count zs → allowed (p .T) (thickness zs k) ≡ true
-  -- every layer's error is at most the bound
-  pub bounded : (k : ℕ) → k < count zs → errorAt p zs k ≤ bound
 
 -- a sequence's error is the sum over its layers: those under zk
 abbrev pub errorUnder : Plate → List ℤ → ℕ → ℕ

@@ -1,13 +1,11 @@
 -- Document 01, 'Sheets': their sizes, and what the two entries of a height and a count are. Assumes nothing.
-use Prim.Native.Nat.{ℕ, zero, suc, _+_, _-_, _*_, _≤_, _<_}
+use Prim.Native.Nat.{ℕ, zero, suc, _+_, _-_, _*_, _≤_}
 use mathlib.Core.Path.{_≡_}
-use mathlib.Core.Bool.{true}
 use mathlib.Core.List.{List}
 use lib.ListN.{length}
-use lib.IntN.{ℤ, pos, negℤ}
-use lib.Signed.{_≤ℤ_, _<ℤ_}
-use Rattle.paper.specs.Layer.{Plate, allowed, tmax}
-use Rattle.paper.specs.Sequence.{_!_, thickness, errorAt, errorUnder, M, Thinner}
+use lib.IntN.{ℤ}
+use Rattle.paper.specs.Layer.{Plate, tmax}
+use Rattle.paper.specs.Sequence.{_!_, thickness, Stack, errorUnder, M, Thinner}
 
 -- each sheet has (N + 2·tmax - 1)·(M + 1) entries: heights from -(tmax - 1) to N + tmax - 1 (outer), counts 0 to M (inner)
 unfoldable pub heights : ℕ → ℕ → ℕ
@@ -15,6 +13,13 @@ heights N T = N + 2 * tmax T - 1
 
 unfoldable pub entries : ℕ → ℕ → ℕ
 entries N T = heights N T * (M N T + 1)
+
+-- a row is one height's entries; where it starts, and the index of the entry of a row and a count m, where `most` is the greatest count
+abbrev pub rowStart : ℕ → ℕ → ℕ
+rowStart most row = row * (most + 1)
+
+abbrev pub entryIndex : ℕ → ℕ → ℕ → ℕ
+entryIndex most row m = rowStart most row + m
 
 -- where none exists the error is 2^64 - 1
 abbrev pub missing : ℕ
@@ -24,11 +29,7 @@ missing = 18_446_744_073_709_551_615
 pub record Ending (p : Plate) (bound m : ℕ) (z : ℤ) (zs : List ℤ) : Type 0 where
   pub counts : length zs ≡ suc m
   pub ends : zs ! m ≡ z
-  pub rising : (k : ℕ) → k < m → zs ! k <ℤ zs ! suc k
-  pub starts-above : negℤ (pos (tmax (p .T))) <ℤ zs ! 0
-  pub starts-by : zs ! 0 ≤ℤ pos 0
-  pub differences : (k : ℕ) → k < m → allowed (p .T) (thickness zs k) ≡ true
-  pub bounded : (k : ℕ) → k < m → errorAt p zs k ≤ bound
+  pub stack : Stack p bound zs m
 
 -- the chosen one of them
 pub record ChosenAt (p : Plate) (bound m : ℕ) (z : ℤ) (zs : List ℤ) : Type 0 where

@@ -6,6 +6,7 @@ use mathlib.Core.Bool.{cond}
 use mathlib.Core.List.{List}
 use lib.ListN.{length, getD}
 use lib.IntN.{ℤ, pos, negsuc, _+ℤ_, _-ℤ_}
+use Rattle.paper.specs.Limits.{mostColumns}
 use Rattle.paper.specs.Layer.{allowed, tmax, Plate}
 
 -- a cell for each start from -(tmax - 1) to N + tmax - 2 and each thickness from 1 to tmax
@@ -15,7 +16,11 @@ rows N T = N + 2 * tmax T - 2
 unfoldable pub cells : ℕ → ℕ → ℕ
 cells N T = rows N T * tmax T
 
--- thickness running fastest: the start and the thickness of the cell of index i
+-- thickness running fastest: the index of the cell of a row and a thickness t, where a row is tmax cells; and the start and the
+-- thickness of the cell of index i
+abbrev pub cellIndex : ℕ → ℕ → ℕ → ℕ
+cellIndex tmax row t = row * tmax + (t - 1)
+
 unfoldable pub startAt : ℕ → ℕ → ℤ
 startAt T i = pos (i / tmax T) -ℤ pos (tmax T - 1)
 
@@ -31,15 +36,11 @@ pub record Table (p : Plate) (buffer : List ℕ) : Type 0 where
   pub size : cells (p .N) (p .T) ≤ length buffer
   pub holds : (i : ℕ) → i < cells (p .N) (p .T) → getD buffer i 0 ≡ cellOf (p .T) (p .layerError) i
 
--- with a table goes its column count c, at most 1,000,000
-abbrev pub mostColumns : ℕ
-mostColumns = 1_000_000
-
 -- a cell is in bounds if it is at most c times half of t rounded down, and 0 where t isn't allowed
 unfoldable pub limit : ℕ → ℕ → ℕ → ℕ
 limit T c t = cond (allowed T t) (c * (t / 2)) 0
 
--- the buffer holds a table of c columns with every cell in bounds
+-- the buffer holds a table of c columns with every cell in bounds; with a table goes its column count c, at most 1,000,000
 pub record InBounds (N T c : ℕ) (buffer : List ℕ) : Type 0 where
   pub size : cells N T ≤ length buffer
   pub columns : c ≤ mostColumns
@@ -50,9 +51,9 @@ abbrev pub natural : ℤ → ℕ
 natural (pos n) = n
 natural (negsuc n) = 0
 
--- the cell of the layer from z of thickness t
+-- the cell of the layer from z of thickness t: its row is how far z is above the table's first start
 abbrev pub cellAt : ℕ → List ℕ → ℤ → ℕ → ℕ
-cellAt T buffer z t = getD buffer (natural (z +ℤ pos (tmax T - 1)) * tmax T + (t - 1)) 0
+cellAt T buffer z t = getD buffer (cellIndex (tmax T) (natural (z +ℤ pos (tmax T - 1))) t) 0
 
 -- the plate of a table: there a layer's error is its cell
 abbrev pub ofTable : ℕ → ℕ → List ℕ → Plate

@@ -1,10 +1,6 @@
-pub mod Places
-pub mod Ends
-pub mod Walks
-pub mod Answers
 pub mod Sums
 pub mod Rows
 pub mod Putting
 pub mod Relaxing
 pub mod Listing
-pub mod Planning
+pub mod Passed

@@ -9,23 +9,23 @@ use lib.ListN.{length, getD, set}
 use Rattle.lists.proofs.Spans.{span-none, span-set, span-keep, span-as, span-more}
 use Rattle.sequence.specs.Least.{plus}
 use Rattle.sequence.specs.Sheets.{mark, unmark}
-use Rattle.plan.specs.Putting.{sumAt, errorOf, thicknessOf, PutOn, Placed}
+use Rattle.plan.specs.Putting.{sumAt, betterError, betterThickness, PutOn, Placed}
 
 -- the better of two
-pub error-less : (sum error : ℕ) → sum < error → errorOf sum error ≡ sum
-unfolding errorOf
+pub error-less : (sum error : ℕ) → sum < error → betterError sum error ≡ sum
+unfolding betterError
 error-less sum error l = simp (lt-ltb sum error l)
 
-pub error-keep : (sum error : ℕ) → error ≤ sum → errorOf sum error ≡ error
-unfolding errorOf
+pub error-keep : (sum error : ℕ) → error ≤ sum → betterError sum error ≡ error
+unfolding betterError
 error-keep sum error l = simp (le-ltb sum error l)
 
-pub thickness-less : (sum error t thickness : ℕ) → sum < error → thicknessOf sum error t thickness ≡ t
-unfolding thicknessOf
+pub thickness-less : (sum error t thickness : ℕ) → sum < error → betterThickness sum error t thickness ≡ t
+unfolding betterThickness
 thickness-less sum error t thickness l = simp (lt-ltb sum error l)
 
-pub thickness-keep : (sum error t thickness : ℕ) → error ≤ sum → thicknessOf sum error t thickness ≡ thickness
-unfolding thicknessOf
+pub thickness-keep : (sum error t thickness : ℕ) → error ≤ sum → betterThickness sum error t thickness ≡ thickness
+unfolding betterThickness
 thickness-keep sum error t thickness l = simp (le-ltb sum error l)
 
 module _ {from to cell t : ℕ} {E F : List ℕ} where

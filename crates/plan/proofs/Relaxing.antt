@@ -6,70 +6,64 @@ use mathlib.Core.Path.{_≡_, refl, sym, ap, _∙_}
 use mathlib.Core.List.{List}
 use mathlib.Core.Logic.{_⊎_, inl, inr, ⊎-elim}
 use mathlib.Core.Option.{Option, none, some}
-use native.Mathlib.Nat.{le-div-iff-mul-le, mul-le-mul-left, mul-le-mul-right}
+use native.Mathlib.Nat.{mul-le-mul-left, mul-le-mul-right}
 use native.Mathlib.Decide.{decLt}
 use native.Mathlib.Omega.{arith}
 use lib.ListN.{getD}
 use Rattle.lists.specs.Best.{Best, value, place}
 use Rattle.lists.proofs.Spans.{span-within}
-use Rattle.paper.specs.Sheets.{missing}
+use Rattle.paper.specs.Sheets.{rowStart, entryIndex, missing}
+use Rattle.paper.proofs.Counts.{counts-reach}
+use Rattle.plate.specs.Datum.{rowOf, atRow}
 use Rattle.plate.specs.Settings.{Sound}
 use Rattle.plate.specs.declared.settings.Settings.{Settings}
 use Rattle.sequence.specs.Sequence.{Rules}
-use Rattle.sequence.specs.Least.{plus, via, least}
+use Rattle.sequence.specs.Least.{plus, via, bestTo, least}
 use Rattle.sequence.specs.Sheets.{mark, unmark}
+use Rattle.sequence.proofs.BestTo.{kept, taken, left}
 use Rattle.sequence.proofs.Bounds.{least-few, least-many}
 use Rattle.sequence.proofs.Marks.{Small, unmark-mark}
 use Rattle.table.specs.Cells.{cellFrom}
-use Rattle.plan.specs.Planning.{Ready, planRules, bestTo}
-use Rattle.plan.specs.Putting.{sumAt, errorOf, thicknessOf, PutOn, Placed}
-use Rattle.plan.specs.Rows.{rulesOf, errorTo, thicknessTo, RowTo, Under, Usable}
-use Rattle.plan.proofs.Places.{row-in}
+use Rattle.sheets.proofs.Places.{row-in}
+use Rattle.plan.specs.Planning.{greatestError, Ready, planRules, tableRules}
+use Rattle.plan.specs.Putting.{sumAt, betterError, betterThickness, PutOn, Placed}
+use Rattle.plan.specs.Rows.{errorTo, thicknessTo, RowTo, Under, Permitted}
 use Rattle.plan.proofs.Putting.{error-less, error-keep, thickness-less, thickness-keep}
 use Rattle.plan.proofs.Sums.{layer-thick, least-small, sum-most, via-small}
-use Rattle.plan.proofs.Rows.{kept, taken, left, via-permitted}
+use Rattle.plan.proofs.Rows.{via-permitted}
 
 -- so many layers of tmax fit under the lowest start of row q, so `first` is one of the counts
 pub first-few : (s : Settings) → Sound s → (q first : ℕ) → q ≤ s .rows → first * s .tmax ≤ q - s .tmax → first ≤ s .counts
 first-few s k q first l u =
-    rw (k .counts-are) (le-div-iff-mul-le {k = s .tmin} (k .thin) .1 (omega (arith, mul-le-mul-left first (k .order))))
+    rw (k .counts-are) (counts-reach (s .height) (s .members) (k .low) (omega (arith, k .greatest, k .thin, k .order)) first (rw (← k .greatest) (omega (arith, k .rows-are))))
 
 -- what `relax` has found when it puts the layer on
-pub record Relaxing (table : List ℕ) (bound q t : ℕ) (E F : List ℕ) (first end cell : ℕ) (s : Settings) : Type 0 where
+pub record Relaxing (table : List ℕ) (bound q t : ℕ) (E F : List ℕ) (first end from to cell : ℕ) (s : Settings) : Type 0 where
   pub ready : Ready s table
-  pub under : Under s (rulesOf s bound table) q E F
-  pub usable : Usable s (rulesOf s bound table) q t
-  pub row : RowTo s (rulesOf s bound table) q (t - 1) (s .counts + 1) E F E F
+  pub under : Under s (tableRules s bound table) q E F
+  pub permitted : Permitted s (tableRules s bound table) q t
+  pub row : RowTo s (tableRules s bound table) q (t - 1) (s .counts + 1) E F E F
   pub first-low : first * s .tmax ≤ q - s .tmax
   pub end-few : end ≤ s .counts
   pub end-past : (m : ℕ) → end ≤ m → m < s .counts → q - t < m * s .tmin
-  pub cell-is : cell ≡ cellFrom (s .members) table (q - t + 33 - s .tmax) t
+  -- where the entries of the first count stand, that the layer starts from and that it ends at
+  pub from-is : from ≡ entryIndex (s .counts) (q - t) first
+  pub to-is : to ≡ entryIndex (s .counts) q first + 1
+  pub cell-is : cell ≡ cellFrom (s .members) table (atRow (s .tmax) (q - t)) t
 
-module _ {table : List ℕ} {bound q t : ℕ} {E F : List ℕ} {first end cell : ℕ} {s : Settings} (r : Relaxing table bound q t E F first end cell s) where
+module _ {table : List ℕ} {bound q t : ℕ} {E F : List ℕ} {first end from to cell : ℕ} {s : Settings} (r : Relaxing table bound q t E F first end from to cell s) where
   abbrev p : Rules
-  p = rulesOf s bound table
+  p = tableRules s bound table
 
-  -- the heights of the row and of the row where the layer starts, and where the entries of the first count stand
+  -- the heights of the row and of the row where the layer starts
   abbrev high : ℕ
-  high = q + 33 - s .tmax
+  high = atRow (s .tmax) q
 
   abbrev low : ℕ
-  low = q - t + 33 - s .tmax
-
-  abbrev from : ℕ
-  from = (q - t) * (s .counts + 1) + first
-
-  abbrev to : ℕ
-  to = q * (s .counts + 1) + (first + 1)
-
-  high-in : high < s .height + 32 + s .tmax
-  high-in = omega (arith, r .under .row, r .ready .sound .rows-are, r .ready .sound .low, r .ready .sound .thin, r .ready .sound .order, r .ready .sound .thick)
-
-  low-in : low < s .height + 32 + s .tmax
-  low-in = omega (arith, high-in)
+  low = atRow (s .tmax) (q - t)
 
   first-under : first * s .tmin ≤ q - t
-  first-under = omega (arith, mul-le-mul-left first (r .ready .sound .order), r .first-low, r .usable .thin)
+  first-under = omega (arith, mul-le-mul-left first (r .ready .sound .order), r .first-low, r .permitted .thin)
 
   pub first-end : first ≤ end
   first-end = go (decLt end first)
@@ -86,7 +80,7 @@ module _ {table : List ℕ} {bound q t : ℕ} {E F : List ℕ} {first end cell :
   few m l =
       let k = r .ready .sound in
       let d : (m + 1) * s .tmax ≤ first * s .tmax = mul-le-mul-right (s .tmax) (omega arith) in
-      least-few p m low (rw (← k .greatest) (omega (arith, k .thick, r .first-low, r .usable .thin)))
+      least-few p m low (rw (← k .greatest) (omega (arith, k .thick, r .first-low, r .permitted .thin)))
 
   many : (m : ℕ) → end ≤ m → m < s .counts → least p m low ≡ none
   unfolding planRules
@@ -97,19 +91,19 @@ module _ {table : List ℕ} {bound q t : ℕ} {E F : List ℕ} {first end cell :
   -- a candidate, and none where the start row has none
   via-is : (m : ℕ) → via p (λ g. least p m g) high t ≡ plus cell (least p m low)
   unfolding planRules
-  via-is m = via-permitted s bound table (r .ready) m q t (r .usable .above) (r .usable .permitted) ∙ ap (λ (x : ℕ). plus x (least p m low)) (sym (r .cell-is))
+  via-is m = via-permitted s bound table (r .ready) m q t (r .permitted .above) (r .permitted .permitted) ∙ ap (λ (x : ℕ). plus x (least p m low)) (sym (r .cell-is))
 
   out : (i : ℕ) → i < s .counts + 1 → ((m : ℕ) → i ≡ m + 1 → (m < first) ⊎ (end ≤ m)) → bestTo p i high t ≡ bestTo p i high (t - 1)
   out i l e =
-      kept p high t i (r .usable .thick)
+      kept p high t i (r .permitted .thick)
       (λ m j. via-is m ∙ ap (plus cell) (⊎-elim (λ a. few m a) (λ a. many m a (omega arith)) (e m j)))
 
   -- such a count's entries are already right
-  errors-right : (i : ℕ) → i < s .counts + 1 → bestTo p i high t ≡ bestTo p i high (t - 1) → errorTo s p q t i ≡ getD E (q * (s .counts + 1) + i) 0
+  errors-right : (i : ℕ) → i < s .counts + 1 → bestTo p i high t ≡ bestTo p i high (t - 1) → errorTo s p q t i ≡ getD E (rowStart (s .counts) q + i) 0
   unfolding errorTo
   errors-right i l e = ap (λ (b : Best). mark (value b)) e ∙ sym (r .row .errors-are .inside i l)
 
-  thicknesses-right : (i : ℕ) → i < s .counts + 1 → bestTo p i high t ≡ bestTo p i high (t - 1) → thicknessTo s p q t i ≡ getD F (q * (s .counts + 1) + i) 0
+  thicknesses-right : (i : ℕ) → i < s .counts + 1 → bestTo p i high t ≡ bestTo p i high (t - 1) → thicknessTo s p q t i ≡ getD F (rowStart (s .counts) q + i) 0
   unfolding thicknessTo
   thicknesses-right i l e = ap place e ∙ sym (r .row .thicknesses-are .inside i l)
 
@@ -117,43 +111,43 @@ module _ {table : List ℕ} {bound q t : ℕ} {E F : List ℕ} {first end cell :
   module _ (m : ℕ) (l : m < end - first) where
     read : getD E (from + m) 0 ≡ mark (least p (first + m) low)
     read =
-        let e : from + m ≡ (q - t) * (s .counts + 1) + (first + m) = omega arith in
-        ap (λ (i : ℕ). getD E i 0) e ∙ r .under .filled (q - t) (first + m) (omega (arith, r .usable .thick, r .usable .above)) (omega (arith, r .end-few))
+        let e : from + m ≡ entryIndex (s .counts) (q - t) (first + m) = omega (arith, r .from-is) in
+        ap (λ (i : ℕ). getD E i 0) e ∙ r .under .filled (q - t) (first + m) (omega (arith, r .permitted .thick, r .permitted .above)) (omega (arith, r .end-few))
 
-    read-few : (getD E (from + m) 0 ≡ missing → ⊥) → getD E (from + m) 0 ≤ 9_184_000_000
+    read-few : (getD E (from + m) 0 ≡ missing → ⊥) → getD E (from + m) 0 ≤ greatestError
     read-few n = rw read (go (least p (first + m) low) refl (λ e. n (read ∙ e)))
       where
-        go : (o : Option ℕ) → least p (first + m) low ≡ o → (mark o ≡ missing → ⊥) → mark o ≤ 9_184_000_000
+        go : (o : Option ℕ) → least p (first + m) low ≡ o → (mark o ≡ missing → ⊥) → mark o ≤ greatestError
         go none e k = absurd (k refl)
-        go (some x) e k = omega (arith, sum-most s bound table (r .ready) (first + m) low x low-in e, r .end-few, r .ready .sound .few-counts)
+        go (some x) e k = omega (arith, sum-most s bound table (r .ready) (first + m) low x e, r .end-few, r .ready .sound .few-counts)
 
     sum-is : sumAt E cell (from + m) ≡ mark (via p (λ g. least p (first + m) g) high t)
     unfolding sumAt
     sum-is =
-        let e = unmark-mark (least p (first + m) low) (least-small s bound table (r .ready) (first + m) low (omega (arith, r .end-few)) low-in) in
+        let e = unmark-mark (least p (first + m) low) (least-small s bound table (r .ready) (first + m) low (omega (arith, r .end-few))) in
         ap (λ (x : ℕ). mark (plus cell (unmark x))) read ∙ ap (λ (o : Option ℕ). mark (plus cell o)) e ∙ ap mark (sym (via-is (first + m)))
 
     -- and in this row, the entry by last layers of less than t
     old : getD E (to + m) 0 ≡ mark (value (bestTo p (first + m + 1) high (t - 1)))
     unfolding errorTo
     old =
-        let e : to + m ≡ q * (s .counts + 1) + (first + m + 1) = omega arith in
+        let e : to + m ≡ entryIndex (s .counts) q (first + m + 1) = omega (arith, r .to-is) in
         ap (λ (j : ℕ). getD E j 0) e ∙ r .row .errors-are .inside (first + m + 1) (omega (arith, r .end-few))
 
     all-small : (u : ℕ) → Small (via p (λ g. least p (first + m) g) high u)
-    all-small u = via-small s bound table (r .ready) (first + m) high u (omega (arith, r .end-few)) high-in
+    all-small u = via-small s bound table (r .ready) (first + m) high u (omega (arith, r .end-few))
 
     -- so each entry becomes the better of the two
     inside : Dec (sumAt E cell (from + m) < getD E (to + m) 0)
-        → (errorTo s p q t (first + m + 1) ≡ errorOf (sumAt E cell (from + m)) (getD E (to + m) 0))
-        × (thicknessTo s p q t (first + m + 1) ≡ thicknessOf (sumAt E cell (from + m)) (getD E (to + m) 0) t (getD F (to + m) 0))
+        → (errorTo s p q t (first + m + 1) ≡ betterError (sumAt E cell (from + m)) (getD E (to + m) 0))
+        × (thicknessTo s p q t (first + m + 1) ≡ betterThickness (sumAt E cell (from + m)) (getD E (to + m) 0) t (getD F (to + m) 0))
     unfolding errorTo thicknessTo
     inside (yes u) =
-        let v = taken p (first + m) high t _ (r .usable .thick) sum-is all-small (omega (arith, old)) in
+        let v = taken p (first + m) high t _ (r .permitted .thick) sum-is all-small (omega (arith, old)) in
         (sym (v .0) ∙ sym (error-less _ _ u), sym (v .1) ∙ sym (thickness-less _ _ _ _ u))
     inside (no u) =
-        let v = left p (first + m) high t _ (r .usable .thick) sum-is all-small (omega (arith, old)) in
-        let e : q * (s .counts + 1) + (first + m + 1) ≡ to + m = omega arith in (
+        let v = left p (first + m) high t _ (r .permitted .thick) sum-is all-small (omega (arith, old)) in
+        let e : entryIndex (s .counts) q (first + m + 1) ≡ to + m = omega (arith, r .to-is) in (
           errors-right (first + m + 1) (omega (arith, r .end-few)) v ∙ ap (λ (i : ℕ). getD E i 0) e ∙ sym (error-keep _ _ (omega arith)),
           thicknesses-right (first + m + 1) (omega (arith, r .end-few)) v ∙ ap (λ (i : ℕ). getD F i 0) e ∙ sym (thickness-keep _ _ _ _ (omega arith)),
         )
@@ -162,28 +156,28 @@ module _ {table : List ℕ} {bound q t : ℕ} {E F : List ℕ} {first end cell :
   pub placed : Placed from to (end - first) E F
   placed =
       let i = row-in s (r .ready .sound) q (s .counts) (r .under .row) (omega arith) in
-      let d : (q - t + 1) * (s .counts + 1) ≤ q * (s .counts + 1) = mul-le-mul-right (s .counts + 1) (omega (arith, r .usable .thick, r .usable .above)) in
+      let d : (q - t + 1) * (s .counts + 1) ≤ rowStart (s .counts) q = mul-le-mul-right (s .counts + 1) (omega (arith, r .permitted .thick, r .permitted .above)) in
       record {
-        apart = omega (arith, r .end-few, first-end);
-        errors-long = omega (arith, r .end-few, first-end, r .under .errors-whole);
-        thicknesses-long = omega (arith, r .end-few, first-end, r .under .thicknesses-whole);
+        apart = omega (arith, r .end-few, first-end, r .from-is, r .to-is);
+        errors-long = omega (arith, r .end-few, first-end, r .under .errors-whole, r .to-is);
+        thicknesses-long = omega (arith, r .end-few, first-end, r .under .thicknesses-whole, r .to-is);
         few = read-few;
       }
 
   pub relaxed : {G H : List ℕ} → PutOn from to cell t (end - first) E F G H → RowTo s p q t (s .counts + 1) E F G H
   relaxed o = record {
     errors-are =
-        span-within (s .counts + 1) (λ m x. errorTo s p q t m) (o .errors-are) (omega arith) (omega (arith, r .end-few, first-end))
+        span-within (s .counts + 1) (λ m x. errorTo s p q t m) (o .errors-are) (omega (arith, r .to-is)) (omega (arith, r .end-few, first-end, r .to-is))
         (λ m a b. errors-right m a (same m a b))
         (λ m a. ap (errorTo s p q t) (index m) ∙ inside m a (decLt _ _) .0);
     thicknesses-are =
-        span-within (s .counts + 1) (λ m x. thicknessTo s p q t m) (o .thicknesses-are) (omega arith) (omega (arith, r .end-few, first-end))
+        span-within (s .counts + 1) (λ m x. thicknessTo s p q t m) (o .thicknesses-are) (omega (arith, r .to-is)) (omega (arith, r .end-few, first-end, r .to-is))
         (λ m a b. thicknesses-right m a (same m a b))
         (λ m a. ap (thicknessTo s p q t) (index m) ∙ inside m a (decLt _ _) .1);
   }
     where
-      index : (m : ℕ) → to - q * (s .counts + 1) + m ≡ first + m + 1
-      index m = omega arith
+      index : (m : ℕ) → to - rowStart (s .counts) q + m ≡ first + m + 1
+      index m = omega (arith, r .to-is)
 
-      same : (m : ℕ) → m < s .counts + 1 → (q * (s .counts + 1) + m < to) ⊎ (to + (end - first) ≤ q * (s .counts + 1) + m) → bestTo p m high t ≡ bestTo p m high (t - 1)
-      same m a b = out m a (λ k e. ⊎-elim (λ x. inl (omega arith)) (λ x. inr (omega (arith, first-end))) b)
+      same : (m : ℕ) → m < s .counts + 1 → (rowStart (s .counts) q + m < to) ⊎ (to + (end - first) ≤ rowStart (s .counts) q + m) → bestTo p m high t ≡ bestTo p m high (t - 1)
+      same m a b = out m a (λ k e. ⊎-elim (λ x. inl (omega (arith, r .to-is))) (λ x. inr (omega (arith, first-end, r .to-is))) b)

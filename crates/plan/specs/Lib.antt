@@ -1,5 +1,3 @@
-pub mod Reading
-pub mod Walking
 pub mod Planning
 pub mod Putting
 pub mod Rows

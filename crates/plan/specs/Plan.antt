@@ -1,17 +1,19 @@
 -- Document 01, 'Plan': its refusals 1, 2, 3 (table, error sheet, thickness sheet, list), 7, 6, what it returns, and what the two sheets
 -- and the list hold then. Assumes nothing.
-use Prim.Native.Nat.{ℕ}
-use mathlib.Core.Path.{_≡_}
+use Prim.Native.Nat.{ℕ, _≤_}
 use mathlib.Core.List.{List, _∷_, _++_}
 use lib.Dec.{ltb}
 use lib.ListN.{length}
+use denote.Ref.{RefT, now}
 use Rattle.lists.specs.Checks.{Check}
 use Rattle.paper.specs.Sequence.{M}
 use Rattle.paper.specs.Sheets.{entries}
-use Rattle.plate.specs.Refusal.{Told, Numbered, check, decided, after}
-use Rattle.plate.specs.Settings.{settingsChecks}
-use Rattle.table.specs.Calls.{short, boundChecks}
-use Rattle.plan.specs.Planning.{planRules, plannedErrors, plannedThicknesses, plannedList}
+use Rattle.plate.specs.Call.{Call}
+use Rattle.plate.specs.Head.{Held, headChecks}
+use Rattle.plate.specs.Refusal.{Numbered, check}
+use Rattle.plate.specs.declared.settings.Settings.{Settings}
+use Rattle.table.specs.Table.{short, boundChecks}
+use Rattle.plan.specs.Planning.{planRules, plannedErrors, plannedThicknesses, plannedList, Ready}
 
 -- what a plan is handed to write into
 pub record Sheets : Type 0 where
@@ -19,19 +21,26 @@ pub record Sheets : Type 0 where
   pub thicknesses : List ℕ
   pub leasts : List ℕ
 
-unfoldable pub planRest : ℕ → ℕ → ℕ → List ℕ → Sheets → List (Check Numbered)
-planRest N T c table lent =
-    short N T table 1
-    ∷ check 3 (ltb (length (lent .errors)) (entries N T)) 2
-    ∷ check 3 (ltb (length (lent .thicknesses)) (entries N T)) 3
-    ∷ check 3 (ltb (length (lent .leasts)) (M N T)) 4
-    ∷ boundChecks N T c table
+abbrev pub sheetsOf : List ℕ → List ℕ → List ℕ → Sheets
+sheetsOf errors thicknesses leasts = record { errors = errors; thicknesses = thicknesses; leasts = leasts }
 
--- THE ANSWER: the greatest count
-unfoldable pub planAnswer : ℕ → ℕ → ℕ → List ℕ → Sheets → Told ℕ
-planAnswer N T c table lent = decided (settingsChecks N T ++ planRest N T c table lent) (M N T)
+-- the same, as three buffers hold them
+abbrev pub sheetsIn : RefT (List ℕ) → RefT (List ℕ) → RefT (List ℕ) → Sheets
+sheetsIn errors thicknesses leasts = sheetsOf (now errors) (now thicknesses) (now leasts)
 
--- what is written
+-- past the settings: 3, by the lengths of the buffers, 7, 6
+unfoldable pub planRest : Held → ℕ → ℕ → ℕ → List (Check Numbered)
+planRest held errors thicknesses leasts =
+    short held 1
+    ∷ check 3 (ltb errors (entries (held .head .height) (held .head .members))) 2
+    ∷ check 3 (ltb thicknesses (entries (held .head .height) (held .head .members))) 3
+    ∷ check 3 (ltb leasts (M (held .head .height) (held .head .members))) 4
+    ∷ boundChecks held
+
+abbrev pub planChecks : Held → ℕ → ℕ → ℕ → List (Check Numbered)
+planChecks held errors thicknesses leasts = headChecks (held .head) ++ planRest held errors thicknesses leasts
+
+-- what is written over a table of N and T
 abbrev pub planned : ℕ → ℕ → ℕ → List ℕ → Sheets → Sheets
 planned N T bound table lent = record {
   errors = plannedErrors N T (planRules N T bound table) (lent .errors);
@@ -39,14 +48,18 @@ planned N T bound table lent = record {
   leasts = plannedList N T (planRules N T bound table) (lent .leasts);
 }
 
--- WHAT THE BUFFERS HOLD THEN
-unfoldable pub planSheets : ℕ → ℕ → ℕ → List ℕ → ℕ → Sheets → Sheets
-planSheets N T c table bound lent = after (planAnswer N T c table lent) (planned N T bound table lent) lent
+-- THE CALL: it answers the greatest count, and fills the sheets and the list
+unfoldable pub planning : Held → ℕ → Sheets → Call ℕ Sheets
+planning held bound lent = record {
+  checks = planChecks held (length (lent .errors)) (length (lent .thicknesses)) (length (lent .leasts));
+  value = M (held .head .height) (held .head .members);
+  writes = planned (held .head .height) (held .head .members) bound (held .buffer) lent;
+  held = lent;
+}
 
-abbrev pub sheetsOf : List ℕ → List ℕ → List ℕ → Sheets
-sheetsOf errors thicknesses leasts = record { errors = errors; thicknesses = thicknesses; leasts = leasts }
-
--- what is told where these checks are left, and what the buffers, which held `lent`, hold then
-pub record Fills (checks : List (Check Numbered)) (N T bound : ℕ) (table : List ℕ) (answer : Told ℕ) (lent left : Sheets) : Type 0 where
-  pub tells : answer ≡ decided checks (M N T)
-  pub leaves : left ≡ after answer (planned N T bound table lent) lent
+-- what is known where none of the refusals is given
+pub record Plannable (held : Held) (errors thicknesses leasts : ℕ) (s : Settings) : Type 0 where
+  pub ready : Ready s (held .buffer)
+  pub errors-whole : s .entries ≤ errors
+  pub thicknesses-whole : s .entries ≤ thicknesses
+  pub leasts-whole : s .counts ≤ leasts

@@ -1,30 +1,26 @@
 -- What a plan fills over a table: the rules that the table's cells give, the two sheets, and the list. Assumes nothing.
-use Prim.Native.Nat.{ℕ, zero, suc, _+_, _≤_}
-use mathlib.Core.Bool.{cond, _&&_}
+use Prim.Native.Nat.{ℕ, _+_, _*_, _≤_}
 use mathlib.Core.List.{List}
-use lib.Dec.{leb, ltb}
 use lib.ListN.{length}
-use Rattle.lists.specs.Best.{Best, nothing, found, bestOf}
 use Rattle.lists.specs.Rewrite.{rewritten}
 use Rattle.paper.specs.Sequence.{M}
 use Rattle.paper.specs.Sheets.{entries}
-use Rattle.plate.specs.Settings.{Sound}
+use Rattle.plate.specs.Settings.{Sound, mostCounts}
 use Rattle.plate.specs.declared.settings.Settings.{Settings}
 use Rattle.sequence.specs.Sequence.{Rules}
-use Rattle.sequence.specs.Least.{via, least, leastOf}
+use Rattle.sequence.specs.Least.{leastOf}
 use Rattle.sequence.specs.Rules.{rules}
 use Rattle.sequence.specs.Sheets.{mark, errorEntry, thicknessEntry}
 use Rattle.table.specs.Cells.{cellFrom}
-use Rattle.table.specs.Limits.{UnderGreatest}
+use Rattle.table.specs.Limits.{greatestLimit, UnderGreatest}
 
 -- the rules that a table is planned by
 unfoldable pub planRules : ℕ → ℕ → ℕ → List ℕ → Rules
 planRules N T bound table = rules N T bound (cellFrom T table)
 
--- the best of m layers that end at h with a last layer of at most k: what stands in the sheets while a row is being filled
-unfoldable pub bestTo : Rules → ℕ → ℕ → ℕ → Best
-bestTo p zero h k = cond (ltb 32 (h + p .tmax) && leb h 32) (found 0 0) nothing
-bestTo p (suc m) h k = bestOf (λ t. via p (λ g. least p m g) h t) 1 k
+-- the rules that a table is planned by, as the code has the settings
+abbrev pub tableRules : Settings → ℕ → List ℕ → Rules
+tableRules s bound table = planRules (s .height) (s .members) bound table
 
 -- the sheets and the list that a plan leaves in buffers that held these numbers
 unfoldable pub plannedErrors : ℕ → ℕ → Rules → List ℕ → List ℕ
@@ -41,3 +37,7 @@ pub record Ready (s : Settings) (table : List ℕ) : Type 0 where
   pub sound : Sound s
   pub size : s .cells ≤ length table
   pub small : UnderGreatest (s .cells) table
+
+-- the greatest error that a sequence can then have
+abbrev pub greatestError : ℕ
+greatestError = mostCounts * greatestLimit

@@ -10,26 +10,27 @@ use Rattle.lists.specs.Rewrite.{Span}
 use Rattle.paper.specs.Sheets.{missing}
 use Rattle.sequence.specs.Least.{plus}
 use Rattle.sequence.specs.Sheets.{mark, unmark}
+use Rattle.plan.specs.Planning.{greatestError}
 
 -- the error of the sequence at the place i with the layer on it, and none where there is no sequence
 unfoldable pub sumAt : List ℕ → ℕ → ℕ → ℕ
 sumAt errors cell i = mark (plus cell (unmark (getD errors i 0)))
 
 -- what the two sheets hold then, where they held `error` and `thickness`: of equal errors the one that was there stays
-unfoldable pub errorOf : ℕ → ℕ → ℕ
-errorOf sum error = cond (ltb sum error) sum error
+unfoldable pub betterError : ℕ → ℕ → ℕ
+betterError sum error = cond (ltb sum error) sum error
 
-unfoldable pub thicknessOf : ℕ → ℕ → ℕ → ℕ → ℕ
-thicknessOf sum error t thickness = cond (ltb sum error) t thickness
+unfoldable pub betterThickness : ℕ → ℕ → ℕ → ℕ → ℕ
+betterThickness sum error t thickness = cond (ltb sum error) t thickness
 
 -- the layer is put on the sequences of n counts, and all else is as it was before
 pub record PutOn (from to cell t n : ℕ) (errors-before thicknesses-before errors thicknesses : List ℕ) : Type 0 where
-  pub errors-are : Span 0 to n (λ m x. errorOf (sumAt errors-before cell (from + m)) x) errors-before errors
-  pub thicknesses-are : Span 0 to n (λ m x. thicknessOf (sumAt errors-before cell (from + m)) (getD errors-before (to + m) 0) t x) thicknesses-before thicknesses
+  pub errors-are : Span 0 to n (λ m x. betterError (sumAt errors-before cell (from + m)) x) errors-before errors
+  pub thicknesses-are : Span 0 to n (λ m x. betterThickness (sumAt errors-before cell (from + m)) (getD errors-before (to + m) 0) t x) thicknesses-before thicknesses
 
 -- the places of n counts are there, what is read lies before what is written, and no sum leaves an entry
 pub record Placed (from to n : ℕ) (errors thicknesses : List ℕ) : Type 0 where
   pub apart : from + n ≤ to
   pub errors-long : to + n ≤ length errors
   pub thicknesses-long : to + n ≤ length thicknesses
-  pub few : (m : ℕ) → m < n → (getD errors (from + m) 0 ≡ missing → ⊥) → getD errors (from + m) 0 ≤ 9_184_000_000
+  pub few : (m : ℕ) → m < n → (getD errors (from + m) 0 ≡ missing → ⊥) → getD errors (from + m) 0 ≤ greatestError

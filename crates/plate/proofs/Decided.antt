@@ -9,8 +9,6 @@ use native.Mathlib.Omega.{arith}
 use Rattle.lists.specs.Checks.{Check, first, Given}
 use Rattle.lists.proofs.Checks.{first-passed, first-stopped, first-exactly}
 use Rattle.plate.specs.declared.refusal.Reason.{Reason}
-use Rattle.plate.specs.declared.settings.Made.the-variants.{Bad}
-use Rattle.plate.specs.Settings.{settingsChecks, settingsOf, toldMade}
 use Rattle.plate.specs.Refusal.{numberOf, Told, done, refused, Numbered, toldBy, decided, after}
 
 told-refused : {X : Type 0} (o : Option Numbered) (x : X) (number place : ℕ) → toldBy o x ≡ refused number place
@@ -50,27 +48,9 @@ module _ {X : Type 0} where
       → some (record { number = numberOf reason; place = place }) ≡ first cs → refused (numberOf reason) place ≡ decided (cs ++ ds) x
   decided-said cs ds x reason place e = sym (decided-stopped cs ds x (record { number = numberOf reason; place = place }) (sym e))
 
-  -- and where the first checks were those of `Settings::new`, which made the settings or gave a reason
-  pub settings-bad : (N T : ℕ) (ds : List (Check Numbered)) (x : X) (reason : Reason)
-      → toldMade (Bad reason) ≡ decided (settingsChecks N T) (settingsOf N T) → refused (numberOf reason) 0 ≡ decided (settingsChecks N T ++ ds) x
-  settings-bad N T ds x reason e =
-      decided-said (settingsChecks N T) ds x reason 0 (sym (refused-first (settingsChecks N T) (settingsOf N T) (numberOf reason) 0 (sym e)))
-
-  pub settings-good : (N T : ℕ) (ds : List (Check Numbered)) (x : X) → first (settingsChecks N T) ≡ none → decided ds x ≡ decided (settingsChecks N T ++ ds) x
-  settings-good N T ds x e = sym (decided-passed (settingsChecks N T) ds x e)
-
   -- what a lent buffer holds after an answer that is known
   pub after-refused : {B : Type 0} (t : Told X) (number place : ℕ) (written held : B) → refused number place ≡ t → held ≡ after t written held
   after-refused t n p new old e = ap (λ (t : Told X). after t new old) e
 
   pub after-done : {B : Type 0} (t : Told X) (x : X) (written held : B) → done x ≡ t → written ≡ after t written held
   after-done t x new old e = ap (λ (t : Told X). after t new old) e
-
--- the checks of `Settings::new` before others, where a function says what the first check says
-pub settings-said : (N T : ℕ) (ds : List (Check Numbered)) (reason : Reason)
-    → toldMade (Bad reason) ≡ decided (settingsChecks N T) (settingsOf N T) → some (record { number = numberOf reason; place = 0 }) ≡ first (settingsChecks N T ++ ds)
-settings-said N T ds reason e =
-    sym (first-stopped (settingsChecks N T) ds _ (refused-first (settingsChecks N T) (settingsOf N T) (numberOf reason) 0 (sym e)))
-
-pub settings-pass : (N T : ℕ) (ds : List (Check Numbered)) → first (settingsChecks N T) ≡ none → first ds ≡ first (settingsChecks N T ++ ds)
-settings-pass N T ds e = sym (first-passed (settingsChecks N T) ds e)

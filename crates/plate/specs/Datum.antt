@@ -10,3 +10,10 @@ datum (negsuc n) = 31 - n
 -- h - 32
 abbrev pub heightOf : ℕ → ℤ
 heightOf h = subℕ h 32
+
+-- the row of a start or of a height in a table or a sheet whose lowest is -(tmax - 1): from the datum height to the row, and back
+abbrev pub rowOf : ℕ → ℕ → ℕ
+rowOf tmax h = h + tmax - 33
+
+abbrev pub atRow : ℕ → ℕ → ℕ
+atRow tmax row = row + 33 - tmax

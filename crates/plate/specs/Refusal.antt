@@ -41,11 +41,15 @@ abbrev pub told : Answer → Told ℕ
 told (Done x) = done x
 told (Refused r) = refusal r
 
--- a number of the document's table, when it is given, and its place
+-- a number of the document's table, and its place
 pub record Numbered : Type 0 where
   pub number : ℕ
   pub place : ℕ
 
+abbrev pub numbered : Refusal → Numbered
+numbered r = record { number = numberOf (r .reason); place = r .place }
+
+-- the refusal of this number and place, when it is given
 abbrev pub check : ℕ → Bool → ℕ → Check Numbered
 check number when place = record { holds = when; says = record { number = number; place = place } }
 

@@ -66,12 +66,12 @@ pub enum Checked {
     Refused(Refusal),
 }
 
-// The answer of a call that is refused at a place.
-pub fn refused(reason: Reason, place: usize) -> Answer
-    ensures { λ r. ⌜ r ≡ Answer.Refused (record { reason = reason; place = place }) ⌝ }
+// The refusal for a reason at a place.
+pub fn refusal_at(reason: Reason, place: usize) -> Refusal
+    ensures { λ r. ⌜ r ≡ record { reason = reason; place = place } ⌝ }
 {
-    Answer::Refused(Refusal {
+    Refusal {
         reason,
         place: place as u64,
-    })
+    }
 }

@@ -1,9 +1,12 @@
 // The settings of a plate: a height and a thickness set, with the sizes that follow from them.
 ghost use mathlib.Core.Path.{_≡_};
-ghost use Rattle.paper.specs.Layer.{allowed, tmin, tmax};
-ghost use Rattle.plate.specs.Refusal.{decided};
-ghost use Rattle.plate.specs.Settings.{settingsChecks, settingsOf, toldMade, Passed};
+ghost use Prim.Native.Nat.{_≤_};
+ghost use Rattle.paper.specs.Layer.{allowed, tmin, tmax, Settings as PaperSettings};
+ghost use Rattle.paper.specs.Sequence.{M};
+ghost use Rattle.plate.specs.Settings.{mostCounts, settingsChecks, Judges};
 use crate::refusal::Reason;
+use crate::refusal::Refusal;
+use crate::refusal::refusal_at;
 
 pub struct Settings {
     pub height: usize,
@@ -18,9 +21,10 @@ pub struct Settings {
     pub entries: usize,
 }
 
+// What a function that asks some checks of a call finds: the settings, where all pass, or the refusal of the first that does not.
 pub enum Made {
     Good(Settings),
-    Bad(Reason),
+    Bad(Refusal),
 }
 
 // Whether the thickness t is in the set.
@@ -64,6 +68,15 @@ pub fn greatest_of(members: u32) -> usize
     0
 }
 
+// The greatest count M of settings in order.
+fn greatest_count(height: usize, members: u32, least: usize, greatest: usize) -> usize
+    requires { ⌜ PaperSettings height members ⌝ }
+    requires { ⌜ (least ≡ tmin members) × (greatest ≡ tmax members) ⌝ }
+    ensures { λ r. ⌜ (r ≡ M height members) × (r ≤ mostCounts) ⌝ }
+{
+    (height + 2 * greatest - 2) / least
+}
+
 impl Settings {
     pub const LEAST_HEIGHT: u32 = 1;
 
@@ -71,29 +84,29 @@ impl Settings {
 
     // Refusals 1 and 2, or the settings.
     pub fn new(height: u32, members: u32) -> Made
-        ensures { λ r. ⌜ (toldMade r ≡ decided (settingsChecks height members) (settingsOf height members)) × Passed r height members ⌝ }
+        ensures { λ r. ⌜ Judges r (settingsChecks height members) height members ⌝ }
     {
         if height < Settings::LEAST_HEIGHT {
-            return Made::Bad(Reason::Height);
+            return Made::Bad(refusal_at(Reason::Height, 0));
         }
         if Settings::GREATEST_HEIGHT < height {
-            return Made::Bad(Reason::Height);
+            return Made::Bad(refusal_at(Reason::Height, 0));
         }
         if members == 0 {
-            return Made::Bad(Reason::NoThickness);
+            return Made::Bad(refusal_at(Reason::NoThickness, 0));
         }
         let n = height as usize;
-        let tmin = least_of(members);
-        let tmax = greatest_of(members);
-        let rows = n + 2 * tmax - 2;
-        let counts = rows / tmin;
+        let least = least_of(members);
+        let greatest = greatest_of(members);
+        let rows = n + 2 * greatest - 2;
+        let counts = greatest_count(n, members, least, greatest);
         Made::Good(Settings {
             height: n,
             members,
-            tmin,
-            tmax,
+            tmin: least,
+            tmax: greatest,
             rows,
-            cells: rows * tmax,
+            cells: rows * greatest,
             counts,
             entries: (rows + 1) * (counts + 1),
         })

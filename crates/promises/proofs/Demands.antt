@@ -2,27 +2,32 @@
 use mathlib.Core.Path.{_≡_, refl, sym, ap, ap₂, _∙_, subst}
 use mathlib.Core.Logic.{inl, inr}
 use mathlib.Core.List.{List, [], _∷_, _++_}
+use mathlib.Core.Option.{none}
 use Prim.Native.Nat.{ℕ, _+_, _≤_, _<_}
 use native.Mathlib.Omega.{arith}
 use borrow.Author.Tests.{le-ltb}
 use lib.IntN.{ℤ}
 use lib.ListN.{length, take}
+use Rattle.lists.specs.Checks.{first}
+use Rattle.lists.proofs.Checks.{first-passed}
 use Rattle.paper.specs.Layer as paper
-use Rattle.paper.specs.Layer.{ofColumns}
+use Rattle.paper.specs.Layer.{Column, ofColumns}
 use Rattle.paper.specs.Table.{cells, InBounds, Table, cellAt, ofTable}
 use Rattle.paper.specs.Sequence.{M, None}
 use Rattle.paper.specs.Sheets.{entries}
-use Rattle.plate.specs.Refusal.{Told, done, refused, after}
-use Rattle.plate.proofs.Decided.{settings-good}
-use Rattle.table.specs.Calls.{short}
-use Rattle.plan.specs.Plan.{Sheets, planRest, planAnswer, planned, planSheets}
-use Rattle.plan.specs.Reading.{readAnswer, readOut}
-use Rattle.recount.specs.Recount.{recountAnswer}
+use Rattle.plate.specs.Call.{answerOf, leftBy}
+use Rattle.plate.specs.Head.{Held, heldIn}
+use Rattle.plate.specs.Refusal.{Told, done, refused}
+use Rattle.plate.specs.Settings.{settingsChecks}
+use Rattle.plate.proofs.Calls.{passes}
+use Rattle.table.specs.Table.{short}
+use Rattle.table.proofs.Passed.{bounds-fine}
+use Rattle.plan.specs.Plan.{Sheets, planRest, planned, planning}
+use Rattle.recount.specs.Recount.{recounting}
 use Rattle.meaning.proofs.Choice.{length-count}
 use Rattle.meaning.proofs.Table.{table-agrees, table-chosen, table-none}
 use Rattle.meaning.proofs.Usable.{same-error}
-use Rattle.promises.specs.Plans.{Answers}
-use Rattle.table.proofs.Bounds.{bounds-fine}
+use Rattle.promises.specs.Plans.{Answers, ReadsBack}
 use Rattle.promises.proofs.Fine.{settings-fine}
 use Rattle.promises.proofs.Plans.{plan-reads}
 use Rattle.promises.proofs.Recounts.{recounts}
@@ -31,47 +36,53 @@ pub take-front : (xs ys : List ℤ) → take (length xs) (xs ++ ys) ≡ xs
 take-front [] ys = refl
 take-front (x ∷ xs) ys = ap (λ (l : List ℤ). x ∷ l) (take-front xs ys)
 
--- a table in bounds and buffers with room: the plan is done, and M is its answer
+-- buffers with room for what a plan fills
 pub record Room (N T : ℕ) (lent : Sheets) : Type 0 where
   pub errors : entries N T ≤ length (lent .errors)
   pub thicknesses : entries N T ≤ length (lent .thicknesses)
   pub leasts : M N T ≤ length (lent .leasts)
 
-module _ (N T : ℕ) (settings : paper.Settings N T) where
-  pub plan-done : (c : ℕ) (table : List ℕ) (lent : Sheets) → InBounds N T c table → Room N T lent → planAnswer N T c table lent ≡ done (M N T)
-  unfolding planAnswer planRest short
-  plan-done c table lent b r =
-      sym (settings-good N T (planRest N T c table lent) (M N T) (settings-fine N T settings))
-      ∙ simp
-      (le-ltb (length table) (cells N T) (b .size), le-ltb (length (lent .errors)) (entries N T) (r .errors), le-ltb (length (lent .thicknesses)) (entries N T) (r .thicknesses), le-ltb (length (lent .leasts)) (M N T) (r .leasts), bounds-fine N T c table b)
+module _ (N T : ℕ) (settings : paper.Settings N T) (c : ℕ) (table : List ℕ) (b : InBounds N T c table) where
+  -- the table, and what goes with it
+  abbrev held : Held
+  held = heldIn (record { height = N; members = T; columns = c }) table
 
-  pub plan-leaves : (c : ℕ) (table : List ℕ) (bound : ℕ) (lent : Sheets) → InBounds N T c table → Room N T lent → planSheets N T c table bound lent ≡ planned N T bound table lent
-  unfolding planSheets
-  plan-leaves c table bound lent b r = ap (λ (t : Told ℕ). after t (planned N T bound table lent) lent) (plan-done c table lent b r)
+  plan-fine : (bound : ℕ) (lent : Sheets) → Room N T lent → first (planning held bound lent .checks) ≡ none
+  unfolding planning planRest short
+  plan-fine bound lent r =
+      first-passed (settingsChecks N T) (planRest held (length (lent .errors)) (length (lent .thicknesses)) (length (lent .leasts))) (settings-fine N T settings)
+      ∙ simp
+      (le-ltb (length table) (cells N T) (b .size), le-ltb (length (lent .errors)) (entries N T) (r .errors), le-ltb (length (lent .thicknesses)) (entries N T) (r .thicknesses), le-ltb (length (lent .leasts)) (M N T) (r .leasts), bounds-fine held b)
+
+  -- the plan is done, and M is its answer
+  pub plan-done : (bound : ℕ) (lent : Sheets) → Room N T lent → answerOf (planning held bound lent) ≡ done (M N T)
+  unfolding planning
+  plan-done bound lent r = passes (planning held bound lent) (plan-fine bound lent r) .0
+
+  pub plan-leaves : (bound : ℕ) (lent : Sheets) → Room N T lent → leftBy (planning held bound lent) ≡ planned N T bound table lent
+  unfolding planning
+  plan-leaves bound lent r = passes (planning held bound lent) (plan-fine bound lent r) .1
 
   -- DEMAND 2, for every table in bounds: after a plan, reading back a count from 1 to M answers the chosen sequence and its error, or 11
   -- exactly when no admissible sequence has that count, and never 12
-  pub demand-2 : (c : ℕ) (table : List ℕ) (bound : ℕ) (lent : Sheets) → InBounds N T c table → bound < 4_294_967_296 → Room N T lent
-      → (n : ℕ) → 1 ≤ n → n ≤ M N T → (out : List ℤ) → n < length out
-      → Answers (ofTable N T table) bound n (readAnswer N T (planSheets N T c table bound lent .errors) (planSheets N T c table bound lent .thicknesses) n (length out)) out
-      (readOut N T (planSheets N T c table bound lent .errors) (planSheets N T c table bound lent .thicknesses) n out)
-  demand-2 c table bound lent b small r n low high out room =
-      subst (λ (s : Sheets). Answers (ofTable N T table) bound n (readAnswer N T (s .errors) (s .thicknesses) n (length out)) out (readOut N T (s .errors) (s .thicknesses) n out))
-      (sym (plan-leaves c table bound lent b r))
+  pub demand-2 : (bound : ℕ) (lent : Sheets) → bound < 4_294_967_296 → Room N T lent → (n : ℕ) → 1 ≤ n → n ≤ M N T → (out : List ℤ) → n < length out
+      → ReadsBack (ofTable N T table) bound n (leftBy (planning held bound lent)) out
+  demand-2 bound lent small r n low high out room =
+      subst (λ (s : Sheets). ReadsBack (ofTable N T table) bound n s out) (sym (plan-leaves bound lent r))
       (plan-reads N T bound settings small table lent (r .errors) (r .thicknesses) (r .leasts) n low high out room)
 
   -- recounting what was read back gives that error
-  pub read-recounted : (c : ℕ) (table : List ℕ) (bound n e : ℕ) (old out : List ℤ) → InBounds N T c table → 1 ≤ n → Answers (ofTable N T table) bound n (done e) old out
-      → recountAnswer N T c table bound (take (n + 1) out) ≡ done e
-  read-recounted c table bound n e old out b low (inr a) = absurd (let q = a .1 in let z : _≡_ {A = ℕ} 0 1 = cc in omega arith)
-  read-recounted c table bound n e old out b low (inl a) =
+  pub read-recounted : (bound n e : ℕ) (old out : List ℤ) → 1 ≤ n → Answers (ofTable N T table) bound n (done e) old out
+      → answerOf (recounting held bound (take (n + 1) out)) ≡ done e
+  read-recounted bound n e old out low (inr a) = absurd (let q = a .1 in let z : _≡_ {A = ℕ} 0 1 = cc in omega arith)
+  read-recounted bound n e old out low (inl a) =
       let s = length-count n (a .0) low (a .1 .counts) in
       let l : length (a .0) ≡ n + 1 = omega arith in
       let t : take (n + 1) out ≡ a .0 = ap₂ take (sym l) (a .3) ∙ take-front (a .0) _ in
-      ap (recountAnswer N T c table bound) t ∙ recounts N T bound table settings (a .0) (a .1 .admissible) c b ∙ sym (a .2)
+      ap (λ (zs : List ℤ). answerOf (recounting held bound zs)) t ∙ recounts N T bound table settings (a .0) (a .1 .admissible) c b ∙ sym (a .2)
 
 -- the same in the words of the plate's columns, where the table is theirs
-pub answers-columns : (N T : ℕ) (columns : List (List ℕ)) (table : List ℕ) → Table (ofColumns N T columns) table → (bound n : ℕ) (answer : Told ℕ) (old out : List ℤ)
+pub answers-columns : (N T : ℕ) (columns : List Column) (table : List ℕ) → Table (ofColumns N T columns) table → (bound n : ℕ) (answer : Told ℕ) (old out : List ℤ)
     → Answers (ofTable N T table) bound n answer old out → Answers (ofColumns N T columns) bound n answer old out
 answers-columns N T columns table t bound n answer old out (inl a) =
     let c = table-chosen (ofColumns N T columns) table t bound n (a .0) .1 (a .1) in

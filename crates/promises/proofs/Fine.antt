@@ -13,7 +13,8 @@ use Rattle.lists.specs.Search.{lowest}
 use Rattle.lists.proofs.Checks.{first-none, or-false}
 use Rattle.lists.proofs.Search.{lowest-none, lowest-before}
 use Rattle.paper.specs.Layer as paper
-use Rattle.paper.specs.Layer.{Column}
+use Rattle.paper.specs.Limits.{mostBoundaries, leastHeight, greatestHeight}
+use Rattle.paper.specs.Layer.{Column, IsColumn, columnOf}
 use Rattle.paper.proofs.Thicknesses.{empty-is-zero}
 use Rattle.plate.specs.Settings.{settingsChecks}
 use Rattle.plate.proofs.Sizes.{some-member}
@@ -25,10 +26,10 @@ settings-fine N T s =
     let l = s .least-height in
     let g = s .greatest-height in
     let n : T ≡ 0 → ⊥ = (λ e. let z = empty-is-zero T (s .bits) .1 e in omega (arith, s .some-thickness)) in
-    simp (le-ltb N 1 l, le-ltb 512 N g, ne-eqb T 0 n)
+    simp (le-ltb N leastHeight l, le-ltb greatestHeight N g, ne-eqb T 0 n)
 
 -- a column in order
-misplaced-none : (N : ℕ) (bs : List ℕ) → Column N bs → (k : ℕ) → k < length bs → misplaced N bs k ≡ false
+misplaced-none : (N : ℕ) (bs : List ℕ) → IsColumn N (columnOf bs) → (k : ℕ) → k < length bs → misplaced N bs k ≡ false
 unfolding misplaced
 misplaced-none N bs c zero l = let w = c .within 0 l in simp (le-ltb N (getD bs 0 0) w)
 misplaced-none N bs c (suc k) l =
@@ -38,12 +39,13 @@ misplaced-none N bs c (suc k) l =
     let n : suc k ≡ 0 → ⊥ = (λ z. omega arith) in
     simp (le-ltb N (getD bs (suc k) 0) w, ne-eqb (suc k) 0 n, e, lt-leb (getD bs (suc k) 0) (getD bs k 0) r)
 
-pub column-fine : (N : ℕ) (bs : List ℕ) → Column N bs → first (columnChecks N bs) ≡ none
+pub column-fine : (N : ℕ) (column : Column) → IsColumn N column → first (columnChecks N (column .boundaries)) ≡ none
 unfolding columnChecks firstMisplaced
-column-fine N bs c =
+column-fine N column c =
+    let bs = column .boundaries in
     let e = lowest-none (misplaced N bs) (length bs) (misplaced-none N bs c) in
     let o : length bs % 2 ≡ 1 → ⊥ = (λ q. omega (arith, c .even)) in
-    simp (ne-eqb (length bs % 2) 1 o, le-ltb 64 (length bs) (c .few), e, le-ltb (length bs) (length bs) (omega arith))
+    simp (ne-eqb (length bs % 2) 1 o, le-ltb mostBoundaries (length bs) (c .few), e, le-ltb (length bs) (length bs) (omega arith))
 
 -- ---- and the other way: what passes is in order
 
@@ -51,10 +53,10 @@ pub settings-passed : (N T : ℕ) → T < 4_294_967_296 → first (settingsCheck
 unfolding settingsChecks
 settings-passed N T bits e =
     let q = first-none (settingsChecks N T) .0 e in
-    let h = or-false (ltb N 1) (ltb 512 N) (q .0) in
+    let h = or-false (ltb N leastHeight) (ltb greatestHeight N) (q .0) in
     record {
-      least-height = ltb-false N 1 (h .0);
-      greatest-height = ltb-false 512 N (h .1);
+      least-height = ltb-false N leastHeight (h .0);
+      greatest-height = ltb-false greatestHeight N (h .1);
       bits = bits;
       some-thickness = some-member T bits (eqb-false T 0 (q .1 .0));
     }
@@ -63,13 +65,13 @@ placed : (N : ℕ) (bs : List ℕ) → ltb (firstMisplaced N bs) (length bs) ≡
 unfolding firstMisplaced
 placed N bs e k l = lowest-before (misplaced N bs) (length bs) k (let u = ltb-false (lowest (misplaced N bs) (length bs)) (length bs) e in omega arith)
 
-pub column-passed : (N : ℕ) (bs : List ℕ) → first (columnChecks N bs) ≡ none → Column N bs
+pub column-passed : (N : ℕ) (bs : List ℕ) → first (columnChecks N bs) ≡ none → IsColumn N (columnOf bs)
 unfolding columnChecks misplaced
 column-passed N bs e =
     let q = first-none (columnChecks N bs) .0 e in
-    let c = or-false (eqb (length bs % 2) 1) (ltb 64 (length bs)) (q .0) in
+    let c = or-false (eqb (length bs % 2) 1) (ltb mostBoundaries (length bs)) (q .0) in
     record {
-      few = ltb-false 64 (length bs) (c .1);
+      few = ltb-false mostBoundaries (length bs) (c .1);
       even = let o = eqb-false (length bs % 2) 1 (c .0) in omega arith;
       rising = λ k l.
           let i : suc k - 1 ≡ k = omega arith in

@@ -17,6 +17,7 @@ use Rattle.lists.specs.Checks.{first}
 use Rattle.lists.specs.Best.{Best, nothing, found, value, place}
 use Rattle.lists.specs.Rewrite.{rewritten}
 use Rattle.lists.proofs.Best.{best-in, best-same}
+use Rattle.lists.proofs.Checks.{first-passed}
 use Rattle.lists.proofs.Rewrite.{rewritten-at, length-rewritten}
 use Rattle.paper.specs.Layer as paper
 use Rattle.paper.specs.Layer.{tmax}
@@ -25,11 +26,15 @@ use Rattle.paper.specs.Sequence.{M, Chosen, None, error}
 use Rattle.paper.specs.Sheets.{entries, missing}
 use Rattle.paper.proofs.Thicknesses.{and-true}
 use Rattle.plate.specs.Datum.{heightOf}
-use Rattle.plate.specs.Refusal.{Told, done, refused, decided, after}
+use Rattle.plate.specs.Call.{Call, answerOf, leftBy}
+use Rattle.plate.specs.Refusal.{done, refused, decided}
+use Rattle.plate.specs.Settings.{settingsChecks}
 use Rattle.plate.proofs.Datum.{datum-height}
 use Rattle.plate.proofs.Sizes.{sound}
-use Rattle.plate.proofs.Decided.{decided-passed, settings-good}
+use Rattle.plate.proofs.Calls.{finished, unwritten}
+use Rattle.plate.proofs.Decided.{decided-passed}
 use Rattle.sequence.specs.Sequence as working
+use Rattle.sequence.specs.Sequence.{lowestEnd}
 use Rattle.sequence.specs.Least as working-least
 use Rattle.sequence.specs.Rules.{rules, shape}
 use Rattle.sequence.specs.Sheets.{mark, unmark, errorEntry, thicknessEntry, entry, endOf, faultUnder, boundariesUnder}
@@ -40,10 +45,10 @@ use Rattle.table.specs.Cells.{cellFrom}
 use Rattle.table.proofs.Cells.{cell-is}
 use Rattle.plan.specs.Plan.{Sheets, planned}
 use Rattle.plan.specs.Planning.{planRules, plannedErrors, plannedThicknesses, plannedList}
-use Rattle.plan.specs.Reading.{roomChecks, entryChecks, readChecks, readAnswer, readOut}
+use Rattle.readback.specs.Reading.{sizeChecks, roomChecks, entryChecks, reading}
 use Rattle.meaning.specs.Working as meaning
 use Rattle.meaning.proofs.Choice.{found-exact, found-none, chosen-error, listed, listed-none}
-use Rattle.promises.specs.Plans.{Answers}
+use Rattle.promises.specs.Plans.{Answers, ReadsBack}
 use Rattle.promises.proofs.Fine.{settings-fine}
 
 -- ---- the rules of a table are those of its plate
@@ -90,11 +95,11 @@ module _ (p : paper.Plate) (bound : ℕ) (settings : paper.Settings (p .N) (p .T
   module _ (errors thicknesses : List ℕ)
       (are-errors : (i : ℕ) → i < entries N T → getD errors i 0 ≡ errorEntry N T R i)
       (are-lasts : (i : ℕ) → i < entries N T → getD thicknesses i 0 ≡ thicknessEntry N T R i) where
-    error-entry : (n h : ℕ) → n ≤ M N T → 32 < h + tmax T → h < N + 32 + tmax T → entry N T errors n h ≡ mark (working-least.least R n h)
+    error-entry : (n h : ℕ) → n ≤ M N T → 32 < h + tmax T → h < lowestEnd N + tmax T → entry N T errors n h ≡ mark (working-least.least R n h)
     unfolding errorEntry
     error-entry n h l u v = entry-is N T errors (λ m g. mark (working-least.least R m g)) (settings .least-height) are-errors n h l u v
 
-    last-entry : (n h : ℕ) → n ≤ M N T → 32 < h + tmax T → h < N + 32 + tmax T → entry N T thicknesses n h ≡ working-least.last R n h
+    last-entry : (n h : ℕ) → n ≤ M N T → 32 < h + tmax T → h < lowestEnd N + tmax T → entry N T thicknesses n h ≡ working-least.last R n h
     unfolding thicknessEntry
     last-entry n h l u v = entry-is N T thicknesses (λ m g. working-least.last R m g) (settings .least-height) are-lasts n h l u v
 
@@ -102,22 +107,22 @@ module _ (p : paper.Plate) (bound : ℕ) (settings : paper.Settings (p .N) (p .T
     pub end-is : (n : ℕ) → n ≤ M N T → endOf N T errors n ≡ working-least.top R n
     unfolding endOf working-least.top
     end-is n l =
-        best-same _ _ (N + 32) (tmax T)
+        best-same _ _ (lowestEnd N) (tmax T)
         (λ h a b. ap unmark (error-entry n h l (let s = settings .some-thickness in omega arith) b) ∙ unmark-mark (working-least.least R n h) (least-small n h l))
 
     -- the chosen sequence of the planner, and what is read
     module _ (n : ℕ) (some-layer : 1 ≤ n) (within : n ≤ M N T) where
-      walk-fine : (e h : ℕ) → working-least.top R n ≡ found e h → faultUnder (entry N T thicknesses) T n h ≡ none
+      walk-fine : (e h : ℕ) → working-least.top R n ≡ found e h → faultUnder (entry N T thicknesses) N T n h ≡ none
       unfolding working-least.top
       walk-fine e h q =
-          let i = best-in (λ g. working-least.least R n g) (N + 32) (tmax T) e h q in
+          let i = best-in (λ g. working-least.least R n g) (lowestEnd N) (tmax T) e h q in
           no-fault N T bound cell (entry N T thicknesses) last-entry n h e within (i .1) (i .2)
 
       walk-is : (e h : ℕ) → working-least.top R n ≡ found e h → (rest : List ℤ)
           → boundariesUnder (entry N T thicknesses) n h rest ≡ map heightOf (working.boundaries (record { top = h; layers = working-least.walk R n h })) ++ rest
       unfolding working-least.top
       walk-is e h q rest =
-          let i = best-in (λ g. working-least.least R n g) (N + 32) (tmax T) e h q in
+          let i = best-in (λ g. working-least.least R n g) (lowestEnd N) (tmax T) e h q in
           walked N T bound cell (entry N T thicknesses) last-entry n h e [] within (i .1) (i .2) rest
 
       none-found : working-least.top R n ≡ nothing → meaning.found p bound n ≡ none
@@ -134,49 +139,52 @@ module _ (p : paper.Plate) (bound : ℕ) (settings : paper.Settings (p .N) (p .T
       least-of e h q = ap value q
 
       module _ (old : List ℤ) (room : n < length old) (whole-errors : entries N T ≤ length errors) (whole-lasts : entries N T ≤ length thicknesses) where
-        room-fine : first (roomChecks N T errors thicknesses n (length old)) ≡ none
-        unfolding roomChecks
+        abbrev call : Call ℕ (List ℤ)
+        call = reading N T errors thicknesses n old
+
+        room-fine : first (sizeChecks N T (length errors) (length thicknesses) n (length old)) ≡ none
+        unfolding sizeChecks
         room-fine =
             let z : n ≡ 0 → ⊥ = (λ e. omega arith) in
             simp
             (le-ltb (length errors) (entries N T) whole-errors, le-ltb (length thicknesses) (entries N T) whole-lasts, ne-eqb n 0 z, le-ltb (M N T) n within, le-ltb (length old) (n + 1) (omega arith))
 
         -- only 11 and 12 are left
-        answer-is : readAnswer N T errors thicknesses n (length old) ≡ decided (entryChecks N T errors thicknesses n) (mark (value (endOf N T errors n)))
-        unfolding readAnswer readChecks
+        answer-is : answerOf call ≡ decided (entryChecks N T errors thicknesses n) (mark (value (endOf N T errors n)))
+        unfolding reading
         answer-is =
-            sym (settings-good N T (roomChecks N T errors thicknesses n (length old) ++ entryChecks N T errors thicknesses n) (mark (value (endOf N T errors n))) (settings-fine N T settings))
-            ∙ decided-passed (roomChecks N T errors thicknesses n (length old)) (entryChecks N T errors thicknesses n) (mark (value (endOf N T errors n))) room-fine
+            decided-passed (roomChecks N T (length errors) (length thicknesses) n (length old)) (entryChecks N T errors thicknesses n) (mark (value (endOf N T errors n)))
+            (first-passed (settingsChecks N T) (sizeChecks N T (length errors) (length thicknesses) n (length old)) (settings-fine N T settings) ∙ room-fine)
 
-        none-read : working-least.top R n ≡ nothing → readAnswer N T errors thicknesses n (length old) ≡ refused 11 0
+        none-read : working-least.top R n ≡ nothing → answerOf call ≡ refused 11 0
         unfolding entryChecks
         none-read q = let e : endOf N T errors n ≡ nothing = end-is n within ∙ q in answer-is ∙ rw e
 
-        some-read : (e h : ℕ) → working-least.top R n ≡ found e h → readAnswer N T errors thicknesses n (length old) ≡ done e
+        some-read : (e h : ℕ) → working-least.top R n ≡ found e h → answerOf call ≡ done e
         unfolding entryChecks
         some-read e h q =
             let d : endOf N T errors n ≡ found e h = end-is n within ∙ q in
-            let f : faultUnder (entry N T thicknesses) T n h ≡ none = walk-fine e h q in
+            let f : faultUnder (entry N T thicknesses) N T n h ≡ none = walk-fine e h q in
             answer-is ∙ rw (d, f)
 
         out-is : (e h : ℕ) → working-least.top R n ≡ found e h
-            → readOut N T errors thicknesses n old ≡ map heightOf (working.boundaries (record { top = h; layers = working-least.walk R n h })) ++ drop (n + 1) old
-        unfolding readOut
+            → leftBy call ≡ map heightOf (working.boundaries (record { top = h; layers = working-least.walk R n h })) ++ drop (n + 1) old
+        unfolding reading
         out-is e h q =
             let d : endOf N T errors n ≡ found e h = end-is n within ∙ q in
-            ap (λ (t : Told ℕ). after t (boundariesUnder (entry N T thicknesses) n (place (endOf N T errors n)) (drop (n + 1) old)) old) (some-read e h q)
+            finished call e (some-read e h q) .2
             ∙ ap (λ (b : Best). boundariesUnder (entry N T thicknesses) n (place b) (drop (n + 1) old)) d
             ∙ walk-is e h q (drop (n + 1) old)
 
-        held-is : readAnswer N T errors thicknesses n (length old) ≡ refused 11 0 → readOut N T errors thicknesses n old ≡ old
-        unfolding readOut
-        held-is e = ap (λ (t : Told ℕ). after t (boundariesUnder (entry N T thicknesses) n (place (endOf N T errors n)) (drop (n + 1) old)) old) e
+        held-is : answerOf call ≡ refused 11 0 → leftBy call ≡ old
+        unfolding reading
+        held-is e = unwritten call 11 0 e
 
         -- DEMAND 2, for any plate: reading back over sheets that hold its entries
-        pub reads : Answers p bound n (readAnswer N T errors thicknesses n (length old)) old (readOut N T errors thicknesses n old)
+        pub reads : Answers p bound n (answerOf call) old (leftBy call)
         reads = go (working-least.top R n) refl
           where
-            go : (b : Best) → working-least.top R n ≡ b → Answers p bound n (readAnswer N T errors thicknesses n (length old)) old (readOut N T errors thicknesses n old)
+            go : (b : Best) → working-least.top R n ≡ b → Answers p bound n (answerOf call) old (leftBy call)
             go nothing q =
                 let r = none-read q in
                 inr (found-none p bound n some-layer .0 (none-found q), r, held-is r)
@@ -220,8 +228,7 @@ module _ (N T bound : ℕ) (settings : paper.Settings N T) (small : bound < 4_29
   module _ (n : ℕ) (some-layer : 1 ≤ n) (within : n ≤ M N T) where
     -- DEMAND 2: for every count from 1 to M, reading back over the sheets that the plan left
     pub plan-reads : (old : List ℤ) → n < length old
-        → Answers plate bound n (readAnswer N T (planned N T bound table lent .errors) (planned N T bound table lent .thicknesses) n (length old)) old
-        (readOut N T (planned N T bound table lent .errors) (planned N T bound table lent .thicknesses) n old)
+        → ReadsBack plate bound n (planned N T bound table lent) old
     plan-reads old room =
         reads plate bound settings small (planned N T bound table lent .errors) (planned N T bound table lent .thicknesses) errors-are lasts-are n some-layer within old room errors-whole lasts-whole
 

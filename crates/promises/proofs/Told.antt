@@ -1,12 +1,15 @@
 -- Answers are told apart by what they tell, since no two reasons have one number, and a record that was read comes back from what it tells;
--- and what a refused call leaves is what it was lent, by the definition of what it leaves. Assumes nothing.
-use mathlib.Core.Path.{_≡_, refl, sym, ap, _∙_, subst}
+-- and what a refused call leaves is what it was lent, by the law on every call. Assumes nothing.
+use mathlib.Core.Path.{_≡_, refl, sym, ap, _∙_}
 use mathlib.Core.Option.{Option}
 use Prim.Native.Nat.{ℕ}
 use native.Mathlib.Omega.{arith}
 use Rattle.plate.specs.Checked.{saidBy}
-use Rattle.plate.specs.Refusal.{Told, done, refused, Numbered, toldBy, decided, after, numberOf, told, refusal}
+use Rattle.plate.specs.Head.{toldTable}
+use Rattle.plate.specs.Refusal.{Told, done, refused, Numbered, toldBy, decided, numberOf, told, refusal}
 use Rattle.plate.specs.Settings.{toldMade}
+use Rattle.plate.specs.declared.head.Tabled.{Tabled}
+use Rattle.plate.specs.declared.head.Tabled.the-variants as tabled
 use Rattle.plate.specs.declared.refusal.Reason.{Reason}
 use Rattle.plate.specs.declared.refusal.Refusal.{Refusal}
 use Rattle.plate.specs.declared.refusal.Answer.{Answer}
@@ -15,28 +18,26 @@ use Rattle.plate.specs.declared.refusal.Checked.{Checked}
 use Rattle.plate.specs.declared.refusal.Checked.the-variants as checked
 use Rattle.plate.specs.declared.settings.Made.{Made}
 use Rattle.plate.specs.declared.settings.Made.the-variants as made
+use Rattle.plate.proofs.Calls.{unwritten as keeps}
 use Rattle.plate.proofs.Numbers.{reasonOf, reason-back, number-only}
 use Rattle.column.specs.Picture.{toldPicture}
 use Rattle.column.specs.declared.Pictured.{Pictured}
 use Rattle.column.specs.declared.Pictured.the-variants as pictured
 use Rattle.motor.proofs.Heights.{told-lifted-only}
-use Rattle.table.specs.Tabled.{toldTable}
-use Rattle.table.specs.declared.Tabled.{Tabled}
-use Rattle.table.specs.declared.Tabled.the-variants as tabled
-use Rattle.table.specs.Calls.{clearTable, addTable, joinTable, takeTable}
-use Rattle.job.specs.Record.{What, Found, Moved, moved, toldRead, toldStep}
-use Rattle.job.specs.Load.{toldLoad, loadTable}
+use Rattle.table.specs.Table.{clearing}
+use Rattle.adding.specs.Adding.{adding}
+use Rattle.joining.specs.Joining.{joining, taking}
+use Rattle.plan.specs.Plan.{planning}
+use Rattle.readback.specs.Reading.{reading}
+use Rattle.job.specs.Record.{What, Reading, Moved, moved, readingAt, recordChecks, readRecord, toldRead, toldStep}
 use Rattle.job.specs.declared.Read.{Read}
 use Rattle.job.specs.declared.Read.the-variants as read
 use Rattle.job.specs.declared.State.{State}
 use Rattle.job.specs.declared.Step.{Step}
-use Rattle.job.specs.declared.Loaded.{Loaded}
-use Rattle.job.specs.declared.Loaded.the-variants as loaded
-use Rattle.plan.specs.Plan.{planSheets}
-use Rattle.plan.specs.Reading.{readOut}
-use Rattle.promises.specs.Refusals.{recordChecks}
+use Rattle.load.specs.Load.{toldLoad, loading}
+use Rattle.load.specs.declared.Loaded.{Loaded}
+use Rattle.load.specs.declared.Loaded.the-variants as loaded
 use Rattle.promises.specs.Told.{Only, Unwritten, Unmoved}
-use Rattle.promises.proofs.Refusals.{foundAt, record-is}
 
 -- a refusal is known by its number and place
 refusal-only : {X : Type 0} (r s : Refusal) → _≡_ {A = Told X} (refusal r) (refusal s) → r ≡ s
@@ -52,11 +53,11 @@ number-told (answer.Done x) (answer.Refused r) e = absurd (let z : _≡_ {A = �
 number-told (answer.Refused r) (answer.Done y) e = absurd (let z : _≡_ {A = ℕ} 0 1 = cc in omega arith)
 number-told (answer.Refused r) (answer.Refused s) e = ap answer.Refused (refusal-only r s e)
 
-tally-told : (a b : Tabled) → toldTable a ≡ toldTable b → a ≡ b
-tally-told (tabled.Done x) (tabled.Done y) e = let q : x ≡ y = cc in ap tabled.Done q
-tally-told (tabled.Done x) (tabled.Refused r) e = absurd (let z : _≡_ {A = ℕ} 0 1 = cc in omega arith)
-tally-told (tabled.Refused r) (tabled.Done y) e = absurd (let z : _≡_ {A = ℕ} 0 1 = cc in omega arith)
-tally-told (tabled.Refused r) (tabled.Refused s) e = ap tabled.Refused (refusal-only r s e)
+table-told : (a b : Tabled) → toldTable a ≡ toldTable b → a ≡ b
+table-told (tabled.Done x) (tabled.Done y) e = let q : x ≡ y = cc in ap tabled.Done q
+table-told (tabled.Done x) (tabled.Refused r) e = absurd (let z : _≡_ {A = ℕ} 0 1 = cc in omega arith)
+table-told (tabled.Refused r) (tabled.Done y) e = absurd (let z : _≡_ {A = ℕ} 0 1 = cc in omega arith)
+table-told (tabled.Refused r) (tabled.Refused s) e = ap tabled.Refused (refusal-only r s e)
 
 picture-told : (a b : Pictured) → toldPicture a ≡ toldPicture b → a ≡ b
 picture-told (pictured.Done x) (pictured.Done y) e = let q : x ≡ y = cc in ap pictured.Done q
@@ -74,7 +75,7 @@ settings-told : (a b : Made) → toldMade a ≡ toldMade b → a ≡ b
 settings-told (made.Good s) (made.Good t) e = let q : s ≡ t = cc in ap made.Good q
 settings-told (made.Good s) (made.Bad r) e = absurd (let z : _≡_ {A = ℕ} 0 1 = cc in omega arith)
 settings-told (made.Bad r) (made.Good t) e = absurd (let z : _≡_ {A = ℕ} 0 1 = cc in omega arith)
-settings-told (made.Bad r) (made.Bad s) e = let n : numberOf r ≡ numberOf s = cc in ap made.Bad (number-only r s n)
+settings-told (made.Bad r) (made.Bad s) e = ap made.Bad (refusal-only r s e)
 
 -- what was read, from what it tells
 abbrev readOf : Told What → Read
@@ -105,7 +106,7 @@ file-told (loaded.Refused r) (loaded.Refused s) e = ap loaded.Refused (refusal-o
 pub only : Only
 only = record {
   number = number-told;
-  tally = tally-told;
+  table = table-told;
   picture = picture-told;
   height = told-lifted-only;
   checks = checks-told;
@@ -114,29 +115,23 @@ only = record {
   file = file-told;
 }
 
--- a refusal keeps what was held
-kept : {X B : Type 0} (t : Told X) (written held : B) (number place : ℕ) → t ≡ refused number place → after t written held ≡ held
-kept t new old n p e = ap (λ (t : Told _). after t new old) e
-
 pub unwritten : Unwritten
-unfolding clearTable addTable joinTable takeTable planSheets readOut loadTable
 unwritten = record {
-  clear = λ N T table n p e. kept _ _ _ n p e;
-  add = λ N T c table bs n p e. kept _ _ _ n p e;
-  join = λ N T c table N′ T′ c′ other n p e. kept _ _ _ n p e;
-  take = λ N T c table N′ T′ c′ other n p e. kept _ _ _ n p e;
-  plan = λ N T c table bound lent n p e. kept _ _ _ n p e;
-  read-back = λ N T errors thicknesses m out n p e. kept _ _ _ n p e;
-  read-file = λ lent file n p e. kept _ _ _ n p e;
+  clear = λ N T table. keeps (clearing N T table);
+  add = λ held column. keeps (adding held column);
+  join = λ held other. keeps (joining held other);
+  take = λ held other. keeps (taking held other);
+  plan = λ held bound lent. keeps (planning held bound lent);
+  read-back = λ N T errors thicknesses n out. keeps (reading N T errors thicknesses n out);
+  read-file = λ lent file. keeps (loading lent file);
 }
 
 -- a refusal moves nothing
-stays : (st : State) (at : ℕ) (t : Told Found) (number place : ℕ) → moved st at t .told ≡ refused number place
+stays : (st : State) (at : ℕ) (t : Told Reading) (number place : ℕ) → moved st at t .told ≡ refused number place
     → (moved st at t .next ≡ at) × (moved st at t .state ≡ st)
-stays st at (done f) n p e = absurd (let z : _≡_ {A = ℕ} 0 1 = cc in omega arith)
+stays st at (done r) n p e = absurd (let z : _≡_ {A = ℕ} 0 1 = cc in omega arith)
 stays st at (refused number place) n p e = (refl, refl)
 
 pub unmoved : Unmoved
-unmoved s st at n p =
-    subst (λ (m : Moved). m .told ≡ refused n p → (m .next ≡ at) × (m .state ≡ st)) (sym (record-is s st at))
-    (stays st at (decided (recordChecks s st at) (foundAt s st at)) n p)
+unfolding readRecord
+unmoved s st at n p = stays st at (decided (recordChecks s st at) (readingAt s st at)) n p

@@ -1,3 +1,3 @@
-pub mod Heights
+pub mod Words
 pub mod Layers
 pub mod Answers

@@ -3,20 +3,22 @@ ghost use mathlib.Core.Path.{_≡_};
 ghost use Prim.Native.Nat.{_+_, _<_, _≤_};
 ghost use lib.ListN.{length};
 ghost use Rattle.paper.specs.Sequence.{_!_};
+ghost use Rattle.plate.specs.Call.{Does};
 ghost use Rattle.plate.specs.Datum.{datum};
+ghost use Rattle.plate.specs.Head.{heldIn};
 ghost use Rattle.plate.specs.Refusal.{told};
 ghost use Rattle.plate.specs.Settings.{Sound};
 ghost use Rattle.recount.specs.Layers.{Looked, Started, sequenceAnswer};
-ghost use Rattle.recount.specs.Recount.{recountAnswer};
+ghost use Rattle.recount.specs.Recount.{recounting};
+use plate::head::Head;
 use plate::height::datum_of;
 use plate::refusal::Answer;
-use plate::refusal::Checked;
 use plate::refusal::Reason;
-use plate::refusal::refused;
+use plate::refusal::refusal_at;
 use plate::settings::Made;
 use plate::settings::Settings;
-use plate::settings::is_allowed;
-use table::Tally;
+use sheets::is_layer;
+use table::cell_of;
 use table::check_table;
 
 // A look at a layer: no layer of an admissible sequence, or its error.
@@ -36,20 +38,18 @@ fn datum_at(sequence: &[i32], k: usize) -> usize
 // The layer from the datum height below up to above.
 fn look(table: &[u32], s: Settings, bound: u32, below: usize, above: usize) -> Layer
     requires { ⌜ Sound s ⌝ }
-    requires { ⌜ (s .cells ≤ length (now table)) × (32 < below + s .tmax) ⌝ }
+    requires { ⌜ (32 < below + s .tmax) × (below < s .height + s .tmax + 32) ⌝ }
     ensures { λ r. ⌜ Looked r (s .height) (s .members) (now (table .entry)) bound below above ⌝ }
 {
     if above <= below {
         return Layer::Out;
     }
     let t = above - below;
-    if !is_allowed(s.members, t) {
+    let row = below + s.tmax - 33;
+    if !is_layer(s, row, t) {
         return Layer::Out;
     }
-    if s.height + s.tmax + 31 < above {
-        return Layer::Out;
-    }
-    let error = table[(below + s.tmax - 33) * s.tmax + (t - 1)];
+    let error = cell_of(table, s.tmax as u32, row as u32, t as u32);
     if bound < error {
         return Layer::Out;
     }
@@ -59,7 +59,6 @@ fn look(table: &[u32], s: Settings, bound: u32, below: usize, above: usize) -> L
 // Where the start is in order: the layers from the lowest up, and the end.
 fn recount_layers(table: &[u32], s: Settings, bound: u32, sequence: &[i32]) -> Answer
     requires { ⌜ Sound s ⌝ }
-    requires { ⌜ s .cells ≤ length (now table) ⌝ }
     requires { ⌜ Started s (now sequence) ⌝ }
     ensures { λ r. ⌜ told r ≡ sequenceAnswer (s .height) (s .members) (now (table .entry)) bound (now (sequence .entry)) ⌝ }
 {
@@ -71,14 +70,14 @@ fn recount_layers(table: &[u32], s: Settings, bound: u32, sequence: &[i32]) -> A
         let above = datum_at(sequence, k + 1);
         let layer = look(table, s, bound, below, above);
         let Layer::Error(error) = layer else {
-            return refused(Reason::NotAdmissible, k + 1);
+            return Answer::Refused(refusal_at(Reason::NotAdmissible, k + 1));
         };
         sum += error;
         below = above;
         k += 1;
     }
     if below < s.height + 32 {
-        return refused(Reason::NotAdmissible, count);
+        return Answer::Refused(refusal_at(Reason::NotAdmissible, count));
     }
     Answer::Done(sum)
 }
@@ -86,40 +85,28 @@ fn recount_layers(table: &[u32], s: Settings, bound: u32, sequence: &[i32]) -> A
 // Where the table is in order: 13.
 fn recount_sequence(table: &[u32], s: Settings, bound: u32, sequence: &[i32]) -> Answer
     requires { ⌜ Sound s ⌝ }
-    requires { ⌜ s .cells ≤ length (now table) ⌝ }
     ensures { λ r. ⌜ told r ≡ sequenceAnswer (s .height) (s .members) (now (table .entry)) bound (now (sequence .entry)) ⌝ }
 {
     if sequence.len() < 2 {
-        return refused(Reason::NotAdmissible, 0);
+        return Answer::Refused(refusal_at(Reason::NotAdmissible, 0));
     }
     let start = datum_at(sequence, 0);
     if 32 < start {
-        return refused(Reason::NotAdmissible, 0);
+        return Answer::Refused(refusal_at(Reason::NotAdmissible, 0));
     }
     if start + s.tmax <= 32 {
-        return refused(Reason::NotAdmissible, 0);
+        return Answer::Refused(refusal_at(Reason::NotAdmissible, 0));
     }
     recount_layers(table, s, bound, sequence)
 }
 
 // Document 01, 'Recount a sequence over a table': 1, 2, 3, 7, 6, 13.
-pub fn recount(
-    table: &[u32],
-    height: u32,
-    members: u32,
-    tally: Tally,
-    bound: u32,
-    sequence: &[i32],
-) -> Answer
-    ensures { λ r. ⌜ told r ≡ recountAnswer height members (tally .columns) (now (table .entry)) bound (now (sequence .entry)) ⌝ }
+pub fn recount(table: &[u32], head: Head, bound: u32, sequence: &[i32]) -> Answer
+    ensures { λ r. ⌜ Does (recounting (heldIn head (now (table .entry))) bound (now (sequence .entry))) (told r) tt ⌝ }
 {
-    let checked = check_table(table, height, members, tally);
-    if let Checked::Refused(refusal) = checked {
-        return Answer::Refused(refusal);
-    }
-    let made = Settings::new(height, members);
+    let made = check_table(table, head);
     match made {
-        Made::Bad(reason) => refused(reason, 0),
+        Made::Bad(refusal) => Answer::Refused(refusal),
         Made::Good(s) => recount_sequence(table, s, bound, sequence),
     }
 }

@@ -1,19 +1,21 @@
--- What code over the sheets needs: heights under the lowest start have none, sums are bounded, a height can have only so many counts and
--- so few, and no sequence has more than M layers. Each by induction on the layers from the top down. Assumes nothing.
-use Prim.Native.Nat.{ℕ, _+_, _-_, _*_, _/_, _≤_, _<_}
+-- What code over the sheets needs: heights under the lowest start have none, sums are bounded, and a height can have only so many counts
+-- and so few, since layers of at least `lo` rise from the lowest row on and those of at most tmax from the highest start. Each by induction
+-- on the layers from the top down. Assumes nothing.
+use Prim.Native.Nat.{ℕ, _+_, _-_, _*_, _≤_, _<_}
 use mathlib.Core.Path.{_≡_, refl, _∙_, ap, subst}
 use mathlib.Core.Logic.{_↔_}
 use mathlib.Core.Option.{Option, none, some}
 use mathlib.Core.List.{List, [], _∷_}
 use native.Mathlib.Omega.{arith}
-use native.Mathlib.Nat.{le-div-iff-mul-le}
 use lib.ListN.{length}
+use Rattle.plate.specs.Datum.{rowOf}
 use Rattle.sequence.specs.Sequence.{Rules, Layer, Built, errorOf, Sequence, Admissible, count}
 use Rattle.sequence.specs.Least.{least, walk}
+use Rattle.sequence.proofs.Layers.{start-from, start-to}
 use Rattle.sequence.proofs.Least.{AtMost, walk-is, least-le}
 
 pub built-low : (p : Rules) (h : ℕ) (ts : List ℕ) → Built p h ts → 32 < h + p .tmax
-built-low p h [] b = b .from
+built-low p h [] b = start-from (p .tmax) h b
 built-low p h (t ∷ ts) b = let x = built-low p (h - t) ts (b .1) in omega arith
 
 is-none : (o : Option ℕ) → ((e : ℕ) → o ≡ some e → ⊥) → o ≡ none
@@ -45,23 +47,23 @@ least-bound p B f m h e q =
     subst (λ (k : ℕ). e ≤ k * B) (w .counts) (omega (arith, x, w .errs))
 
 -- counts
-pub count-low : (p : Rules) (lo : ℕ) → ((h t : ℕ) → Layer p h t → lo ≤ t) → (h : ℕ) (ts : List ℕ) → Built p h ts → length ts * lo + 33 ≤ h + p .tmax
-count-low p lo f h [] b = let x = b .from in omega arith
+pub count-low : (p : Rules) (lo : ℕ) → ((h t : ℕ) → Layer p h t → lo ≤ t) → (h : ℕ) (ts : List ℕ) → Built p h ts → length ts * lo ≤ rowOf (p .tmax) h
+count-low p lo f h [] b = omega arith
 count-low p lo f h (t ∷ ts) b =
     let x = count-low p lo f (h - t) ts (b .1) in
     let y = f h t (b .0) in
     let z = b .0 .above in
-    omega arith
+    omega (arith, built-low p (h - t) ts (b .1))
 
-pub count-le : (p : Rules) (lo : ℕ) → 0 < lo → ((h t : ℕ) → Layer p h t → lo ≤ t) → (s : Sequence) → Admissible p s → count s ≤ (p .height + 2 * p .tmax - 2) / lo
-count-le p lo pos f s a =
+pub count-most : (p : Rules) (lo : ℕ) → ((h t : ℕ) → Layer p h t → lo ≤ t) → (s : Sequence) → Admissible p s → count s * lo ≤ p .height + 2 * p .tmax - 2
+count-most p lo f s a =
     let x = count-low p lo f (s .top) (s .layers) (a .built) in
     let y = a .ends .to in
-    le-div-iff-mul-le pos .1 (omega arith)
+    omega arith
 
 -- and at least as many as the rise asks for
 pub count-high : (p : Rules) (h : ℕ) (ts : List ℕ) → Built p h ts → h ≤ 32 + length ts * p .tmax
-count-high p h [] b = let x = b .to in omega arith
+count-high p h [] b = omega (arith, start-to (p .tmax) h b)
 count-high p h (t ∷ ts) b =
     let x = count-high p (h - t) ts (b .1) in
     let y = b .0 .thin in
@@ -69,7 +71,7 @@ count-high p h (t ∷ ts) b =
     omega arith
 
 -- the counts that a height can have
-pub least-many : (p : Rules) (lo : ℕ) → ((h t : ℕ) → Layer p h t → lo ≤ t) → (m h : ℕ) → h + p .tmax < m * lo + 33 → least p m h ≡ none
+pub least-many : (p : Rules) (lo : ℕ) → ((h t : ℕ) → Layer p h t → lo ≤ t) → (m h : ℕ) → rowOf (p .tmax) h < m * lo → least p m h ≡ none
 least-many p lo f m h l =
     least-none p m h .1 (λ ts e b. let x = count-low p lo f h ts b in let y : length ts * lo ≡ m * lo = ap (λ (k : ℕ). k * lo) e in omega arith)
 

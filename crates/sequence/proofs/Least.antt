@@ -8,13 +8,13 @@ use mathlib.Core.Option.{Option, none, some}
 use mathlib.Core.List.{List, [], _∷_}
 use native.Mathlib.Omega.{arith}
 use native.Mathlib.Decide.{decLt}
-use lib.Dec.{ltb, leb}
+use lib.Dec.{leb}
 use lib.ListN.{length}
-use borrow.Author.Tests.{ltb-true, leb-true, lt-ltb, le-leb}
+use borrow.Author.Tests.{leb-true, le-leb}
 use Rattle.lists.specs.Best.{Best, nothing, found, value, place, bestOf}
 use Rattle.paper.proofs.Thicknesses.{and-true}
-use Rattle.sequence.specs.Sequence.{Rules, Starts, Layer, Built, errorOf, First}
-use Rattle.sequence.specs.Least.{plus, via, least, last, walk}
+use Rattle.sequence.specs.Sequence.{Rules, starts, Layer, Built, errorOf, First}
+use Rattle.sequence.specs.Least.{plus, via, bestTo, least, last, walk}
 use Rattle.lists.proofs.Best.{Beats, none-not-some, best-in, best-beats}
 
 -- o is there, and at most e
@@ -22,20 +22,35 @@ abbrev pub AtMost : Option ℕ → ℕ → Type 0
 AtMost none e = ⊥
 AtMost (some e₀) e = e₀ ≤ e
 
--- starts
-pub starts-some : (p : Rules) (h : ℕ) → Starts p h → least p 0 h ≡ some 0
-unfolding least
-starts-some p h s = simp (lt-ltb _ _ (s .from), le-leb _ _ (s .to))
+-- no layers
+pub starts-some : (p : Rules) (h : ℕ) → starts (p .tmax) h ≡ true → least p 0 h ≡ some 0
+unfolding least bestTo
+starts-some p h s = simp s
 
-pub some-starts : (p : Rules) (h e : ℕ) → least p 0 h ≡ some e → Starts p h × (e ≡ 0)
-unfolding least
-some-starts p h e q = go (ltb 32 (h + p .tmax) && leb h 32) refl q
+pub some-starts : (p : Rules) (h e : ℕ) → least p 0 h ≡ some e → (starts (p .tmax) h ≡ true) × (e ≡ 0)
+unfolding least bestTo
+some-starts p h e q = go (starts (p .tmax) h) refl q
   where
-    go : (c : Bool) → ltb 32 (h + p .tmax) && leb h 32 ≡ c → cond c (some 0) none ≡ some e → Starts p h × (e ≡ 0)
-    go true t r =
-        let b = and-true _ _ t in
-        (record { from = ltb-true _ _ (b .0); to = leb-true _ _ (b .1) }, cc)
+    go : (c : Bool) → starts (p .tmax) h ≡ c → value (cond c (found 0 0) nothing) ≡ some e → (starts (p .tmax) h ≡ true) × (e ≡ 0)
+    go true t r = (t, cc)
     go false t r = absurd (none-not-some r)
+
+pub last-zero : (p : Rules) (h : ℕ) → last p 0 h ≡ 0
+unfolding last bestTo
+last-zero p h = go (starts (p .tmax) h)
+  where
+    go : (b : Bool) → place (cond b (found 0 0) nothing) ≡ 0
+    go true = refl
+    go false = refl
+
+-- where there is none the last thickness is 0
+pub last-none : (p : Rules) (m h : ℕ) → least p m h ≡ none → last p m h ≡ 0
+unfolding least last
+last-none p m h q = go (bestTo p m h (p .tmax)) q
+  where
+    go : (b : Best) → value b ≡ none → place b ≡ 0
+    go nothing q = refl
+    go (found e t) q = absurd (none-not-some (sym q))
 
 -- one layer
 pub via-some : (p : Rules) (below : ℕ → Option ℕ) (h t e : ℕ) → via p below h t ≡ some e
@@ -75,7 +90,7 @@ pub record Step (p : Rules) (m h t e : ℕ) : Type 0 where
   pub adds : rest + p .cell (h - t) t ≡ e
 
 pub least-step : (p : Rules) (m h e : ℕ) → least p (suc m) h ≡ some e → Step p m h (last p (suc m) h) e
-unfolding least last
+unfolding bestTo least last
 least-step p m h e q =
     let b : row p m h ≡ found e (place (row p m h)) = value-found (row p m h) e q in
     let i = best-in (λ t. via p (λ g. least p m g) h t) 1 (p .tmax) e (place (row p m h)) b in
@@ -112,7 +127,7 @@ beats-at-most nothing e t e′ h l = absurd h
 beats-at-most (found e₀ t₀) e t e′ h l = omega arith
 
 pub least-le : (p : Rules) (h : ℕ) (ts : List ℕ) → Built p h ts → AtMost (least p (length ts) h) (errorOf p h ts)
-unfolding least
+unfolding bestTo least
 least-le p h [] b = rw (starts-some p h b) (omega arith)
 least-le p h (t ∷ ts) b = go (at-most-some _ _ (least-le p (h - t) ts (b .1)))
   where
@@ -122,7 +137,7 @@ least-le p h (t ∷ ts) b = go (at-most-some _ _ (least-le p (h - t) ts (b .1)))
 
 -- (c) the walk is the first of those of least error
 pub walk-first : (p : Rules) (h : ℕ) (ts : List ℕ) → Built p h ts → least p (length ts) h ≡ some (errorOf p h ts) → First (walk p (length ts) h) ts
-unfolding walk least last
+unfolding walk bestTo least last
 walk-first p h [] b q = tt
 walk-first p h (t ∷ ts) b q = go (at-most-some _ _ (least-le p (h - t) ts (b .1))) (λ r. walk-first p (h - t) ts (b .1) r)
   where

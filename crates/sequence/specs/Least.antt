@@ -4,9 +4,9 @@ use Prim.Native.Nat.{ℕ, zero, suc, _+_, _-_}
 use mathlib.Core.Bool.{cond, _&&_}
 use mathlib.Core.Option.{Option, none, some}
 use mathlib.Core.List.{List, [], _∷_}
-use lib.Dec.{leb, ltb}
+use lib.Dec.{leb}
 use Rattle.lists.specs.Best.{Best, nothing, found, value, place, bestOf}
-use Rattle.sequence.specs.Sequence.{Rules, Sequence}
+use Rattle.sequence.specs.Sequence.{Rules, starts, lowestEnd, Sequence}
 
 abbrev pub plus : ℕ → Option ℕ → Option ℕ
 plus c none = none
@@ -16,15 +16,18 @@ plus c (some e) = some (e + c)
 abbrev pub via : Rules → (ℕ → Option ℕ) → ℕ → ℕ → Option ℕ
 via p below h t = cond (leb t h && p .may (h - t) t) (plus (p .cell (h - t) t) (below (h - t))) none
 
+-- the best of m layers that end at h, by last layers of at most k: its error, and its last thickness, which is 0 for no layers
+unfoldable pub bestTo : Rules → ℕ → ℕ → ℕ → Best
+bestTo p zero h k = cond (starts (p .tmax) h) (found 0 0) nothing
+bestTo p (suc m) h k = bestOf (λ t. via p (λ g. value (bestTo p m g (p .tmax))) h t) 1 k
+
 -- the least error of m layers that end at h
 unfoldable pub least : Rules → ℕ → ℕ → Option ℕ
-least p zero h = cond (ltb 32 (h + p .tmax) && leb h 32) (some 0) none
-least p (suc m) h = value (bestOf (λ t. via p (λ g. least p m g) h t) 1 (p .tmax))
+least p m h = value (bestTo p m h (p .tmax))
 
 -- the last thickness of the chosen one
 unfoldable pub last : Rules → ℕ → ℕ → ℕ
-last p zero h = 0
-last p (suc m) h = place (bestOf (λ t. via p (λ g. least p m g) h t) 1 (p .tmax))
+last p m h = place (bestTo p m h (p .tmax))
 
 -- following `last` down
 unfoldable pub walk : Rules → ℕ → ℕ → List ℕ
@@ -33,7 +36,7 @@ walk p (suc m) h = last p (suc m) h ∷ walk p m (h - last p (suc m) h)
 
 -- the lowest end height with the least error
 unfoldable pub top : Rules → ℕ → Best
-top p n = bestOf (λ h. least p n h) (p .height + 32) (p .tmax)
+top p n = bestOf (λ h. least p n h) (lowestEnd (p .height)) (p .tmax)
 
 abbrev pub fromTop : Rules → ℕ → Best → Option Sequence
 fromTop p n nothing = none

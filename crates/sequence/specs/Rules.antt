@@ -1,13 +1,13 @@
 -- The rules of a height, a thickness set and a bound, over any layers' errors. Assumes nothing.
-use Prim.Native.Nat.{ℕ}
+use Prim.Native.Nat.{ℕ, _+_}
 use mathlib.Core.Bool.{Bool, _&&_}
-use lib.Dec.{leb}
+use lib.Dec.{leb, ltb}
 use Rattle.paper.specs.Layer.{allowed, tmax}
-use Rattle.sequence.specs.Sequence.{Rules}
+use Rattle.sequence.specs.Sequence.{Rules, lowestEnd}
 
--- what is asked of a layer from h of thickness t whatever its error is
+-- the shape of a layer from h of thickness t, whatever its error is: a thickness in T, from above -tmax, to below N + tmax
 unfoldable pub shape : ℕ → ℕ → ℕ → ℕ → Bool
-shape N T h t = allowed T t
+shape N T h t = allowed T t && (ltb 32 (h + tmax T) && ltb (h + t) (lowestEnd N + tmax T))
 
 abbrev pub rules : ℕ → ℕ → ℕ → (ℕ → ℕ → ℕ) → Rules
 rules N T bound cell =

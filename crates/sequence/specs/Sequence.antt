@@ -3,8 +3,9 @@
 use Prim.Native.Nat.{ℕ, _+_, _-_, _≤_, _<_}
 use mathlib.Core.Path.{_≡_}
 use mathlib.Core.Logic.{_⊎_}
-use mathlib.Core.Bool.{Bool, true}
+use mathlib.Core.Bool.{Bool, true, _&&_}
 use mathlib.Core.List.{List, [], _∷_}
+use lib.Dec.{leb, ltb}
 use lib.ListN.{length}
 
 -- what the layers of a plate are measured by: the error of the layer from h of thickness t, whether it is permitted,
@@ -15,15 +16,17 @@ pub record Rules : Type 0 where
   pub tmax : ℕ
   pub height : ℕ
 
--- -tmax < z ≤ 0
-pub record Starts (p : Rules) (h : ℕ) : Type 0 where
-  pub from : 32 < h + p .tmax
-  pub to : h ≤ 32
+-- h is a start: -tmax < z ≤ 0
+unfoldable pub starts : ℕ → ℕ → Bool
+starts tmax h = ltb 32 (h + tmax) && leb h 32
 
--- N ≤ z < N + tmax
+-- h is an end: N ≤ z < N + tmax
+abbrev pub lowestEnd : ℕ → ℕ
+lowestEnd N = N + 32
+
 pub record Ends (p : Rules) (h : ℕ) : Type 0 where
-  pub from : p .height + 32 ≤ h
-  pub to : h < p .height + 32 + p .tmax
+  pub from : lowestEnd (p .height) ≤ h
+  pub to : h < lowestEnd (p .height) + p .tmax
 
 -- a permitted layer of thickness t that ends at h
 pub record Layer (p : Rules) (h t : ℕ) : Type 0 where
@@ -34,7 +37,7 @@ pub record Layer (p : Rules) (h t : ℕ) : Type 0 where
 
 -- permitted layers, from a start up to h; the thicknesses are listed from the top down
 abbrev pub Built : Rules → ℕ → List ℕ → Type 0
-Built p h [] = Starts p h
+Built p h [] = starts (p .tmax) h ≡ true
 Built p h (t ∷ ts) = Layer p h t × Built p (h - t) ts
 
 -- the sum of the layers' errors

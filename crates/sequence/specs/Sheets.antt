@@ -1,19 +1,21 @@
 -- The sheets of a plan as lists of numbers, and reading a sequence back from two sheets, which may hold anything. Heights are counted from
 -- the datum: h stands for z = h - 32. Assumes nothing.
-use Prim.Native.Nat.{ℕ, zero, suc, _+_, _-_, _*_}
-use mathlib.Core.Bool.{cond, _&&_}
+use Prim.Native.Nat.{ℕ, zero, suc, _+_, _-_}
+use mathlib.Core.Bool.{cond}
 use mathlib.Core.Option.{Option, none, some}
 use mathlib.Core.List.{List, _∷_}
-use lib.Dec.{leb, eqb}
-use lib.IntN.{ℤ, subℕ}
+use lib.Dec.{eqb}
+use lib.IntN.{ℤ}
 use lib.ListN.{getD}
 use Rattle.lists.specs.Best.{Best, bestOf}
 use Rattle.lists.specs.Grid.{flat}
-use Rattle.paper.specs.Layer.{allowed, tmax}
+use Rattle.paper.specs.Layer.{tmax}
 use Rattle.paper.specs.Sequence.{M}
-use Rattle.paper.specs.Sheets.{missing}
-use Rattle.sequence.specs.Sequence.{Rules}
+use Rattle.paper.specs.Sheets.{entryIndex, missing}
+use Rattle.plate.specs.Datum.{heightOf, rowOf, atRow}
+use Rattle.sequence.specs.Sequence.{Rules, starts, lowestEnd}
 use Rattle.sequence.specs.Least.{least, last}
+use Rattle.sequence.specs.Rules.{shape}
 
 -- an entry: the number itself, and 2^64 - 1 where there is none
 abbrev pub mark : Option ℕ → ℕ
@@ -25,29 +27,29 @@ unmark x = cond (eqb x missing) none (some x)
 
 -- the entries of the two sheets by their flat index: heights outer, counts inner
 unfoldable pub errorEntry : ℕ → ℕ → Rules → ℕ → ℕ
-errorEntry N T p = flat (M N T + 1) (λ row m. mark (least p m (row + 33 - tmax T)))
+errorEntry N T p = flat (M N T + 1) (λ row m. mark (least p m (atRow (tmax T) row)))
 
 unfoldable pub thicknessEntry : ℕ → ℕ → Rules → ℕ → ℕ
-thicknessEntry N T p = flat (M N T + 1) (λ row m. last p m (row + 33 - tmax T))
+thicknessEntry N T p = flat (M N T + 1) (λ row m. last p m (atRow (tmax T) row))
 
 -- what a sheet holds at the count m and the height h
 unfoldable pub entry : ℕ → ℕ → List ℕ → ℕ → ℕ → ℕ
-entry N T sheet m h = getD sheet ((h + tmax T - 33) * (M N T + 1) + m) 0
+entry N T sheet m h = getD sheet (entryIndex (M N T) (rowOf (tmax T) h) m) 0
 
 -- the least entry of count n at the heights from N to N + tmax - 1, and the lowest of them that has it
 unfoldable pub endOf : ℕ → ℕ → List ℕ → ℕ → Best
-endOf N T errors n = bestOf (λ h. unmark (entry N T errors n h)) (N + 32) (tmax T)
+endOf N T errors n = bestOf (λ h. unmark (entry N T errors n h)) (lowestEnd N) (tmax T)
 
--- walking down from h through m layers, whose thicknesses `look` tells: the layer that does not read back, a thickness not in T or a step
--- below -(tmax - 1), or 0 for an end above 0
-unfoldable pub faultUnder : (ℕ → ℕ → ℕ) → ℕ → ℕ → ℕ → Option ℕ
-faultUnder look T zero h = cond (leb h 32) none (some 0)
-faultUnder look T (suc m) h =
-    cond (allowed T (look (suc m) h) && leb (33 + look (suc m) h) (h + tmax T))
-    (faultUnder look T m (h - look (suc m) h))
+-- walking down from h through m layers, whose thicknesses `look` tells: the layer that does not read back, since it has not the shape of one,
+-- a thickness in T and a start not below -(tmax - 1); or 0 for an end that is no start, as it is above 0
+unfoldable pub faultUnder : (ℕ → ℕ → ℕ) → ℕ → ℕ → ℕ → ℕ → Option ℕ
+faultUnder look N T zero h = cond (starts (tmax T) h) none (some 0)
+faultUnder look N T (suc m) h =
+    cond (shape N T (h - look (suc m) h) (look (suc m) h))
+    (faultUnder look N T m (h - look (suc m) h))
     (some (suc m))
 
 -- the boundaries of that walk, from the lowest up, and then `above`
 unfoldable pub boundariesUnder : (ℕ → ℕ → ℕ) → ℕ → ℕ → List ℤ → List ℤ
-boundariesUnder look zero h above = subℕ h 32 ∷ above
-boundariesUnder look (suc m) h above = boundariesUnder look m (h - look (suc m) h) (subℕ h 32 ∷ above)
+boundariesUnder look zero h above = heightOf h ∷ above
+boundariesUnder look (suc m) h above = boundariesUnder look m (h - look (suc m) h) (heightOf h ∷ above)

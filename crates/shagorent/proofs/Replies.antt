@@ -3,7 +3,7 @@ use mathlib.Core.Path.{_≡_, sym, ap, _∙_}
 use mathlib.Core.Bool.{Bool, cond}
 use Prim.Native.Nat.{ℕ}
 use lib.Ieee.{Float, binary32, ofBits}
-use Rattle.plate.specs.Refusal.{numberOf, told}
+use Rattle.plate.specs.Refusal.{numberOf, Told, told}
 use Rattle.plate.specs.declared.refusal.Answer.{Answer}
 use Rattle.plate.specs.declared.refusal.Answer.the-variants as answer
 use Rattle.plate.specs.declared.refusal.Refusal.{Refusal}
@@ -14,22 +14,23 @@ use Rattle.column.specs.declared.Pictured.the-variants as pictured
 use Rattle.motor.specs.Height.{toldLifted}
 use Rattle.motor.specs.declared.Lifted.{Lifted}
 use Rattle.motor.specs.declared.Lifted.the-variants as lifted
-use Rattle.table.specs.Tabled.{toldTable}
-use Rattle.table.specs.declared.Tally.{Tally}
-use Rattle.table.specs.declared.Tabled.{Tabled}
-use Rattle.table.specs.declared.Tabled.the-variants as tabled
-use Rattle.job.specs.Load.{toldLoad}
-use Rattle.job.specs.declared.Load.{Load}
-use Rattle.job.specs.declared.Loaded.{Loaded}
-use Rattle.job.specs.declared.Loaded.the-variants as loaded
-use Rattle.shagorent.specs.Replies.{reply, tableReply, pictureReply, heightReply, jobReply}
+use Rattle.plate.specs.Call.{Call, Does}
+use Rattle.plate.specs.Head.{toldTable}
+use Rattle.plate.specs.declared.head.Head.{Head}
+use Rattle.plate.specs.declared.head.Tabled.{Tabled}
+use Rattle.plate.specs.declared.head.Tabled.the-variants as tabled
+use Rattle.load.specs.Load.{toldLoad}
+use Rattle.load.specs.declared.Load.{Load}
+use Rattle.load.specs.declared.Loaded.{Loaded}
+use Rattle.load.specs.declared.Loaded.the-variants as loaded
+use Rattle.shagorent.specs.Replies.{Replies, reply, noHead, tableReply, pictureReply, heightReply, jobReply}
 
 module _ (n : ℕ) (r : Refusal) (e : n ≡ numberOf (r .reason)) where
   pub reply-refused : (a : Answer) → a ≡ answer.Refused r → record { number = n; value = r .place } ≡ reply (told a)
   reply-refused a f = ap (λ (m : ℕ). record { number = m; value = r .place }) e ∙ sym (ap (λ (x : Answer). reply (told x)) f)
 
-  pub table-refused : (a : Tabled) → a ≡ tabled.Refused r → record { number = n; columns = 0; place = r .place } ≡ tableReply (toldTable a)
-  table-refused a f = ap (λ (m : ℕ). record { number = m; columns = 0; place = r .place }) e ∙ sym (ap (λ (x : Tabled). tableReply (toldTable x)) f)
+  pub table-refused : (head : Head) → head ≡ noHead → (a : Tabled) → a ≡ tabled.Refused r → record { number = n; head = head; place = r .place } ≡ tableReply (toldTable a)
+  table-refused head h a f = (λ i. record { number = e i; head = h i; place = r .place }) ∙ sym (ap (λ (x : Tabled). tableReply (toldTable x)) f)
 
   pub picture-refused : (a : Pictured) → a ≡ pictured.Refused r → record { number = n; filled = 0; value = r .place } ≡ pictureReply (toldPicture a)
   picture-refused a f = ap (λ (m : ℕ). record { number = m; filled = 0; value = r .place }) e ∙ sym (ap (λ (x : Pictured). pictureReply (toldPicture x)) f)
@@ -37,14 +38,14 @@ module _ (n : ℕ) (r : Refusal) (e : n ≡ numberOf (r .reason)) where
   pub height-refused : (a : Lifted) → a ≡ lifted.Refused r → record { number = n; height = ofBits binary32 0; place = r .place } ≡ heightReply (toldLifted a)
   height-refused a f = ap (λ (m : ℕ). record { number = m; height = ofBits binary32 0; place = r .place }) e ∙ sym (ap (λ (x : Lifted). heightReply (toldLifted x)) f)
 
-  pub job-refused : (a : Loaded) → a ≡ loaded.Refused r → record { number = n; height = 0; members = 0; bound = 0; columns = 0; place = r .place } ≡ jobReply (toldLoad a)
-  job-refused a f = ap (λ (m : ℕ). record { number = m; height = 0; members = 0; bound = 0; columns = 0; place = r .place }) e ∙ sym (ap (λ (x : Loaded). jobReply (toldLoad x)) f)
+  pub job-refused : (head : Head) → head ≡ noHead → (a : Loaded) → a ≡ loaded.Refused r → record { number = n; head = head; bound = 0; place = r .place } ≡ jobReply (toldLoad a)
+  job-refused head h a f = (λ i. record { number = e i; head = h i; bound = 0; place = r .place }) ∙ sym (ap (λ (x : Loaded). jobReply (toldLoad x)) f)
 
 pub reply-done : (x : ℕ) (a : Answer) → a ≡ answer.Done x → record { number = 0; value = x } ≡ reply (told a)
 reply-done x a f = sym (ap (λ (y : Answer). reply (told y)) f)
 
-pub table-done : (t : Tally) (a : Tabled) → a ≡ tabled.Done t → record { number = 0; columns = t .columns; place = 0 } ≡ tableReply (toldTable a)
-table-done t a f = sym (ap (λ (y : Tabled). tableReply (toldTable y)) f)
+pub table-done : (head : Head) (a : Tabled) → a ≡ tabled.Done head → record { number = 0; head = head; place = 0 } ≡ tableReply (toldTable a)
+table-done head a f = sym (ap (λ (y : Tabled). tableReply (toldTable y)) f)
 
 pub picture-done : (j : Judged) (a : Pictured) → a ≡ pictured.Done j → (b : Bool) → j .filled ≡ b → record { number = 0; filled = cond b 1 0; value = j .share } ≡ pictureReply (toldPicture a)
 picture-done j a f b e = sym (ap (λ (y : Pictured). pictureReply (toldPicture y)) f ∙ ap (λ (x : Bool). record { number = 0; filled = cond x 1 0; value = j .share }) e)
@@ -52,6 +53,9 @@ picture-done j a f b e = sym (ap (λ (y : Pictured). pictureReply (toldPicture y
 pub height-done : (x : Float) (a : Lifted) → a ≡ lifted.Done x → record { number = 0; height = x; place = 0 } ≡ heightReply (toldLifted a)
 height-done x a f = sym (ap (λ (y : Lifted). heightReply (toldLifted y)) f)
 
-pub job-done : (l : Load) (a : Loaded) → a ≡ loaded.Done l
-    → record { number = 0; height = l .asked .height; members = l .asked .members; bound = l .asked .bound; columns = l .tally .columns; place = 0 } ≡ jobReply (toldLoad a)
+pub job-done : (l : Load) (a : Loaded) → a ≡ loaded.Done l → record { number = 0; head = l .head; bound = l .bound; place = 0 } ≡ jobReply (toldLoad a)
 job-done l a f = sym (ap (λ (y : Loaded). jobReply (toldLoad y)) f)
+
+-- the reply is made of what the call under it did
+pub replies : {X B R : Type 0} (to : Told X → R) (call : Call X B) {answer : Told X} {now : B} → Does call answer now → (r : R) → r ≡ to answer → Replies to call r now
+replies to call d r e = record { tells = e ∙ ap to (d .tells); leaves = d .leaves }

@@ -1,25 +1,37 @@
 -- What is told to other languages: document 01's number of a refusal, or 0 where it is done, and beside it what is answered or the place.
 -- What a reply has no use for is 0. Assumes nothing.
 use Prim.Native.Nat.{ℕ}
+use mathlib.Core.Path.{_≡_}
 use mathlib.Core.Bool.{cond}
 use lib.Ieee.{Float, binary32, ofBits}
 use Rattle.plate.specs.Refusal.{Told, done, refused}
 use Rattle.column.specs.declared.Judged.{Judged}
-use Rattle.table.specs.declared.Tally.{Tally}
-use Rattle.job.specs.declared.Load.{Load}
+use Rattle.plate.specs.Call.{Call, answerOf, leftBy}
+use Rattle.plate.specs.Head.{clearedHead}
+use Rattle.plate.specs.declared.head.Head.{Head}
+use Rattle.load.specs.declared.Load.{Load}
 use Rattle.shagorent.specs.declared.Reply.{Reply}
 use Rattle.shagorent.specs.declared.TableReply.{TableReply}
 use Rattle.shagorent.specs.declared.PictureReply.{PictureReply}
 use Rattle.shagorent.specs.declared.HeightReply.{HeightReply}
 use Rattle.shagorent.specs.declared.JobReply.{JobReply}
 
+-- THE PROMISE of every call for other languages that writes: the reply is what the call's answer becomes, and the memory is what it leaves
+pub record Replies {X B R : Type 0} (to : Told X → R) (call : Call X B) (reply : R) (now : B) : Type 0 where
+  pub tells : reply ≡ to (answerOf call)
+  pub leaves : now ≡ leftBy call
+
 abbrev pub reply : Told ℕ → Reply
 reply (done x) = record { number = 0; value = x }
 reply (refused number place) = record { number = number; value = place }
 
-abbrev pub tableReply : Told Tally → TableReply
-tableReply (done tally) = record { number = 0; columns = tally .columns; place = 0 }
-tableReply (refused number place) = record { number = number; columns = 0; place = place }
+-- what goes with no table
+abbrev pub noHead : Head
+noHead = clearedHead 0 0
+
+abbrev pub tableReply : Told Head → TableReply
+tableReply (done head) = record { number = 0; head = head; place = 0 }
+tableReply (refused number place) = record { number = number; head = noHead; place = place }
 
 abbrev pub pictureReply : Told Judged → PictureReply
 pictureReply (done j) = record { number = 0; filled = cond (j .filled) 1 0; value = j .share }
@@ -30,12 +42,5 @@ heightReply (done x) = record { number = 0; height = x; place = 0 }
 heightReply (refused number place) = record { number = number; height = ofBits binary32 0; place = place }
 
 abbrev pub jobReply : Told Load → JobReply
-jobReply (done l) = record {
-  number = 0;
-  height = l .asked .height;
-  members = l .asked .members;
-  bound = l .asked .bound;
-  columns = l .tally .columns;
-  place = 0;
-}
-jobReply (refused number place) = record { number = number; height = 0; members = 0; bound = 0; columns = 0; place = place }
+jobReply (done l) = record { number = 0; head = l .head; bound = l .bound; place = 0 }
+jobReply (refused number place) = record { number = number; head = noHead; bound = 0; place = place }

@@ -1,40 +1,41 @@
 // The calls for other languages: a thin function over each of the library's, with a reply by value. include/shagorent.h says the same in C.
 ghost use mathlib.Core.Path.{_≡_};
-ghost use lib.ListN.{length};
+ghost use Rattle.paper.specs.Layer.{columnOf};
 ghost use Rattle.paper.specs.Table.{cells};
 ghost use Rattle.paper.specs.Sheets.{entries};
 ghost use Rattle.paper.specs.Sequence.{M};
-ghost use Rattle.plate.specs.Refusal.{numberOf, done, refused, told, decided};
+ghost use Rattle.plate.specs.Refusal.{done, refusal, told, decided};
+ghost use Rattle.plate.specs.Head.{heldIn, toldTable};
 ghost use Rattle.plate.specs.Settings.{settingsChecks};
 ghost use Rattle.column.specs.Picture.{toldPicture, pictureAnswer};
 ghost use Rattle.motor.specs.Height.{toldLifted, heightAnswer};
-ghost use Rattle.table.specs.Tabled.{toldTable};
-ghost use Rattle.table.specs.Calls.{clearAnswer, clearTable, addAnswer, addTable, joinAnswer, joinTable, takeAnswer, takeTable};
-ghost use Rattle.plan.specs.Plan.{planAnswer, planSheets, sheetsOf};
-ghost use Rattle.plan.specs.Reading.{readAnswer, readOut};
+ghost use Rattle.table.specs.Table.{clearing};
+ghost use Rattle.adding.specs.Adding.{adding};
+ghost use Rattle.joining.specs.Joining.{joining, taking};
+ghost use Rattle.plan.specs.Plan.{planning, sheetsIn};
+ghost use Rattle.readback.specs.Reading.{reading};
 ghost use Rattle.recount.specs.Recount.{recountAnswer};
-ghost use Rattle.job.specs.File.{jobOf};
-ghost use Rattle.job.specs.Load.{toldLoad, loadAnswer, loadTable};
-ghost use Rattle.shagorent.specs.Replies.{reply, tableReply, pictureReply, heightReply, jobReply};
+ghost use Rattle.load.specs.Load.{toldLoad, jobOf, loading};
+ghost use Rattle.shagorent.specs.Replies.{Replies, reply, tableReply, pictureReply, heightReply, jobReply};
+use adding::add_column;
 use column::Pictured;
 use column::picture;
-use job::Loaded;
-use job::read_job;
+use joining::join_tables;
+use joining::take_off;
+use load::Loaded;
+use load::read_job;
 use motor::Lifted;
 use motor::motor_height;
 use plan::plan;
-use plan::read_back;
+use plate::head::Head;
+use plate::head::Tabled;
 use plate::refusal::Answer;
-use plate::refusal::Reason;
+use plate::refusal::Refusal;
 use plate::settings::Made;
 use plate::settings::Settings;
+use readback::read_back;
 use recount::recount;
-use table::Tabled;
-use table::Tally;
-use table::add_column;
 use table::clear_table;
-use table::join_tables;
-use table::take_off;
 
 // The answer, or a refusal's number and its place.
 #[repr(C)]
@@ -43,11 +44,11 @@ pub struct Reply {
     pub value: u64,
 }
 
-// The table's column count then, or a refusal.
+// What goes with the table then, or a refusal.
 #[repr(C)]
 pub struct TableReply {
     pub number: u32,
-    pub columns: u32,
+    pub head: Head,
     pub place: u64,
 }
 
@@ -67,14 +68,12 @@ pub struct HeightReply {
     pub place: u64,
 }
 
-// What a job's settings ask for, and its column count; or a refusal.
+// What goes with a job's table, and the bound that it asks for; or a refusal.
 #[repr(C)]
 pub struct JobReply {
     pub number: u32,
-    pub height: u32,
-    pub members: u32,
+    pub head: Head,
     pub bound: u32,
-    pub columns: u32,
     pub place: u64,
 }
 
@@ -97,16 +96,16 @@ fn table_reply(tabled: Tabled) -> TableReply
     ensures { λ r. ⌜ r ≡ tableReply (toldTable tabled) ⌝ }
 {
     match tabled {
-        Tabled::Done(tally) => TableReply {
+        Tabled::Done(head) => TableReply {
             number: 0,
-            columns: tally.columns,
+            head,
             place: 0,
         },
         Tabled::Refused(refusal) => {
             let reason = refusal.reason;
             TableReply {
                 number: reason.number(),
-                columns: 0,
+                head: Head::cleared(0, 0),
                 place: refusal.place,
             }
         }
@@ -149,14 +148,11 @@ fn job_reply(loaded: Loaded) -> JobReply
 {
     match loaded {
         Loaded::Done(load) => {
-            let asked = load.asked;
-            let tally = load.tally;
+            let head = load.head;
             JobReply {
                 number: 0,
-                height: asked.height,
-                members: asked.members,
-                bound: asked.bound,
-                columns: tally.columns,
+                head,
+                bound: load.bound,
                 place: 0,
             }
         }
@@ -164,10 +160,8 @@ fn job_reply(loaded: Loaded) -> JobReply
             let reason = refusal.reason;
             JobReply {
                 number: reason.number(),
-                height: 0,
-                members: 0,
+                head: Head::cleared(0, 0),
                 bound: 0,
-                columns: 0,
                 place: refusal.place,
             }
         }
@@ -198,111 +192,54 @@ fn height_reply(lifted: Lifted) -> HeightReply
 
 #[no_mangle]
 pub extern "C" fn shagorent_clear_table(table: &mut [u32], height: u32, members: u32) -> TableReply
-    ensures { λ r. ⌜ (r ≡ tableReply (clearAnswer height members (now (table .entry)))) × (now (table .exit) ≡ clearTable height members (now (table .entry))) ⌝ }
+    ensures { λ r. ⌜ Replies tableReply (clearing height members (now (table .entry))) r (now (table .exit)) ⌝ }
 {
     table_reply(clear_table(table, height, members))
 }
 
 #[no_mangle]
-pub extern "C" fn shagorent_add_column(
-    table: &mut [u32],
-    height: u32,
-    members: u32,
-    columns: u32,
-    column: &[u16],
-) -> TableReply
-    ensures { λ r. ⌜ (r ≡ tableReply (addAnswer height members columns (now (table .entry)) (now (column .entry))))
-        × (now (table .exit) ≡ addTable height members columns (now (table .entry)) (now (column .entry))) ⌝ }
+pub extern "C" fn shagorent_add_column(table: &mut [u32], head: Head, column: &[u16]) -> TableReply
+    ensures { λ r. ⌜ Replies tableReply (adding (heldIn head (now (table .entry))) (columnOf (now (column .entry)))) r (now (table .exit)) ⌝ }
 {
-    let tally = Tally { columns };
-    table_reply(add_column(table, height, members, tally, column))
+    table_reply(add_column(table, head, column))
 }
 
 #[no_mangle]
 pub extern "C" fn shagorent_join_tables(
     table: &mut [u32],
-    height: u32,
-    members: u32,
-    columns: u32,
+    head: Head,
     other: &[u32],
-    other_height: u32,
-    other_members: u32,
-    other_columns: u32,
+    other_head: Head,
 ) -> TableReply
-    ensures { λ r. ⌜ (r ≡ tableReply (joinAnswer height members columns (now (table .entry)) «other_height» «other_members» «other_columns» (now (other .entry))))
-        × (now (table .exit) ≡ joinTable height members columns (now (table .entry)) «other_height» «other_members» «other_columns» (now (other .entry))) ⌝ }
+    ensures { λ r. ⌜ Replies tableReply (joining (heldIn head (now (table .entry))) (heldIn «other_head» (now (other .entry)))) r (now (table .exit)) ⌝ }
 {
-    let tally = Tally { columns };
-    let other_tally = Tally {
-        columns: other_columns,
-    };
-    table_reply(join_tables(
-        table,
-        height,
-        members,
-        tally,
-        other,
-        other_height,
-        other_members,
-        other_tally,
-    ))
+    table_reply(join_tables(table, head, other, other_head))
 }
 
 #[no_mangle]
 pub extern "C" fn shagorent_take_off(
     table: &mut [u32],
-    height: u32,
-    members: u32,
-    columns: u32,
+    head: Head,
     other: &[u32],
-    other_height: u32,
-    other_members: u32,
-    other_columns: u32,
+    other_head: Head,
 ) -> TableReply
-    ensures { λ r. ⌜ (r ≡ tableReply (takeAnswer height members columns (now (table .entry)) «other_height» «other_members» «other_columns» (now (other .entry))))
-        × (now (table .exit) ≡ takeTable height members columns (now (table .entry)) «other_height» «other_members» «other_columns» (now (other .entry))) ⌝ }
+    ensures { λ r. ⌜ Replies tableReply (taking (heldIn head (now (table .entry))) (heldIn «other_head» (now (other .entry)))) r (now (table .exit)) ⌝ }
 {
-    let tally = Tally { columns };
-    let other_tally = Tally {
-        columns: other_columns,
-    };
-    table_reply(take_off(
-        table,
-        height,
-        members,
-        tally,
-        other,
-        other_height,
-        other_members,
-        other_tally,
-    ))
+    table_reply(take_off(table, head, other, other_head))
 }
 
 #[no_mangle]
 pub extern "C" fn shagorent_plan(
     table: &[u32],
-    height: u32,
-    members: u32,
-    columns: u32,
+    head: Head,
     bound: u32,
     errors: &mut [u64],
     thicknesses: &mut [u8],
     list: &mut [u64],
 ) -> Reply
-    ensures { λ r. ⌜ (r ≡ reply (planAnswer height members columns (now (table .entry)) (sheetsOf (now (errors .entry)) (now (thicknesses .entry)) (now (list .entry)))))
-        × (sheetsOf (now (errors .exit)) (now (thicknesses .exit)) (now (list .exit)) ≡ planSheets height members columns (now (table .entry)) bound (sheetsOf (now (errors .entry)) (now (thicknesses .entry)) (now (list .entry)))) ⌝ }
+    ensures { λ r. ⌜ Replies reply (planning (heldIn head (now (table .entry))) bound (sheetsIn (errors .entry) (thicknesses .entry) (list .entry))) r (sheetsIn (errors .exit) (thicknesses .exit) (list .exit)) ⌝ }
 {
-    let tally = Tally { columns };
-    reply_of(plan(
-        table,
-        height,
-        members,
-        tally,
-        bound,
-        errors,
-        thicknesses,
-        list,
-    ))
+    reply_of(plan(table, head, bound, errors, thicknesses, list))
 }
 
 #[no_mangle]
@@ -314,25 +251,16 @@ pub extern "C" fn shagorent_read_back(
     count: u32,
     out: &mut [i32],
 ) -> Reply
-    ensures { λ r. ⌜ (r ≡ reply (readAnswer height members (now (errors .entry)) (now (thicknesses .entry)) count (length (now (out .entry)))))
-        × (now (out .exit) ≡ readOut height members (now (errors .entry)) (now (thicknesses .entry)) count (now (out .entry))) ⌝ }
+    ensures { λ r. ⌜ Replies reply (reading height members (now (errors .entry)) (now (thicknesses .entry)) count (now (out .entry))) r (now (out .exit)) ⌝ }
 {
     reply_of(read_back(height, members, errors, thicknesses, count, out))
 }
 
 #[no_mangle]
-pub extern "C" fn shagorent_recount(
-    table: &[u32],
-    height: u32,
-    members: u32,
-    columns: u32,
-    bound: u32,
-    sequence: &[i32],
-) -> Reply
-    ensures { λ r. ⌜ r ≡ reply (recountAnswer height members columns (now (table .entry)) bound (now (sequence .entry))) ⌝ }
+pub extern "C" fn shagorent_recount(table: &[u32], head: Head, bound: u32, sequence: &[i32]) -> Reply
+    ensures { λ r. ⌜ r ≡ reply (recountAnswer (heldIn head (now (table .entry))) bound (now (sequence .entry))) ⌝ }
 {
-    let tally = Tally { columns };
-    reply_of(recount(table, height, members, tally, bound, sequence))
+    reply_of(recount(table, head, bound, sequence))
 }
 
 #[no_mangle]
@@ -357,8 +285,7 @@ pub extern "C" fn shagorent_motor_height(step: u32, boundary: i32) -> HeightRepl
 
 #[no_mangle]
 pub extern "C" fn shagorent_read_job(input: &[u8], most: usize, table: &mut [u32]) -> JobReply
-    ensures { λ r. ⌜ (r ≡ jobReply (loadAnswer (now (table .entry)) (jobOf most (now (input .entry)))))
-        × (now (table .exit) ≡ loadTable (now (table .entry)) (jobOf most (now (input .entry)))) ⌝ }
+    ensures { λ r. ⌜ Replies jobReply (loading (now (table .entry)) (jobOf most (now (input .entry)))) r (now (table .exit)) ⌝ }
 {
     job_reply(read_job(input, most, table))
 }
@@ -374,12 +301,13 @@ fn size_reply(size: usize) -> Reply
     }
 }
 
-fn bad_reply(reason: Reason) -> Reply
-    ensures { λ r. ⌜ r ≡ reply (refused (numberOf reason) 0) ⌝ }
+fn bad_reply(bad: Refusal) -> Reply
+    ensures { λ r. ⌜ r ≡ reply (refusal bad) ⌝ }
 {
+    let reason = bad.reason;
     Reply {
         number: reason.number(),
-        value: 0,
+        value: bad.place,
     }
 }
 
@@ -390,7 +318,7 @@ pub extern "C" fn shagorent_cells(height: u32, members: u32) -> Reply
     let made = Settings::new(height, members);
     match made {
         Made::Good(s) => size_reply(s.cells),
-        Made::Bad(reason) => bad_reply(reason),
+        Made::Bad(refusal) => bad_reply(refusal),
     }
 }
 
@@ -401,7 +329,7 @@ pub extern "C" fn shagorent_entries(height: u32, members: u32) -> Reply
     let made = Settings::new(height, members);
     match made {
         Made::Good(s) => size_reply(s.entries),
-        Made::Bad(reason) => bad_reply(reason),
+        Made::Bad(refusal) => bad_reply(refusal),
     }
 }
 
@@ -412,6 +340,6 @@ pub extern "C" fn shagorent_counts(height: u32, members: u32) -> Reply
     let made = Settings::new(height, members);
     match made {
         Made::Good(s) => size_reply(s.counts),
-        Made::Bad(reason) => bad_reply(reason),
+        Made::Bad(refusal) => bad_reply(refusal),
     }
 }

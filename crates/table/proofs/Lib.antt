@@ -1,5 +1,4 @@
 pub mod Limits
 pub mod Cells
-pub mod Answers
-pub mod Bounds
+pub mod Passed
 pub mod Plates

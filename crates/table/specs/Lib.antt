@@ -1,5 +1,4 @@
 pub mod Cells
-pub mod Tabled
-pub mod Calls
 pub mod Limits
+pub mod Table
 pub mod Plates

@@ -20,7 +20,7 @@ use Rattle.plate.proofs.Datum.{height-datum}
 use Rattle.plate.proofs.Signed.{datum-back, datum-fits}
 use Rattle.plate.proofs.Decided.{decided-passed, decided-said}
 use Rattle.column.specs.Order.{columnChecks}
-use Rattle.column.specs.Picture.{startOutside, layerChecks, judgement, toldPicture}
+use Rattle.column.specs.Picture.{startOutside, layerChecks, judgement}
 use Rattle.column.specs.declared.Judged.{Judged}
 use Rattle.column.proofs.Starts.{start-low, start-high, start-in}
 use Rattle.column.proofs.picture_of.Statement.{statement}
@@ -64,14 +64,14 @@ returns-2 : tie.Need-returns-2
 returns-2 c =
     let d = c .before .before .before in
     let p = s d .pre in
-    ap toldPicture (c .refused .ensures)
+    ap (λ (r : Refusal). refusal r) (c .refusal-at .ensures)
     ∙ out-start _ _ _ _ _ _ (fine d) (start-low _ _ _ (p .low) (omega (arith, p .greatest, p .thin, p .order)) (omega (arith, p .greatest, p .thick)) (omega (arith, h-is d, p .greatest)))
 
 returns-3 : tie.Need-returns-3
 returns-3 c =
     let d = c .before .before .before .before .before in
     let p = s d .pre in
-    ap toldPicture (c .refused2 .ensures)
+    ap (λ (r : Refusal). refusal r) (c .refusal-at2 .ensures)
     ∙ out-start _ _ _ _ _ _ (fine d) (start-high _ _ _ (p .low) (omega (arith, p .greatest, p .thin, p .order)) (omega (arith, p .greatest, p .thick)) (omega (arith, h-is d, p .greatest)) (omega (arith, h-is d, p .greatest)))
 
 inside : (d : tie.After-datum-of) → 33 ≤ d .datum-of .result + s d .args .s .tmax → d .datum-of .result ≤ s d .args .s .height + s d .args .s .tmax + 30
@@ -92,7 +92,7 @@ returns-4 c =
 returns-5 : tie.Need-returns-5
 returns-5 c =
     let d = c .before .before .before .before .before .before .before in
-    ap toldPicture (c .refused3 .ensures)
+    ap (λ (r : Refusal). refusal r) (c .refusal-at3 .ensures)
     ∙ out-thickness _ _ _ _ _ _ (fine d) (inside d (omega arith) (omega arith)) (sym (c .before .before .is-allowed .ensures) ∙ c .before .if3 .left)
 
 pub picture-of-spec : {M : Type 1} → statement M

@@ -17,4 +17,4 @@ check-decoded-spec =
     (λ c. search needs)
     (λ c.
     c .check-column .ensures
-    ∙ ap (λ (bs : List ℕ). first (columnChecks (c .before .before .before .before .before .before .before .before .args .height) bs)) (c .before .before .before .before .decode .ensures)))
+    ∙ ap (λ (bs : List ℕ). first (columnChecks (c .before .before .before .before .before .before .before .before .args .height) bs)) (c .before .before .before .before .read-words .ensures)))

@@ -1,37 +1,40 @@
 -- `clear_row` meets its contract. The loop's invariant: the first m entries of the row are cleared. Assumes nothing.
 use mathlib.Core.Path.{refl}
-use Prim.Native.Nat.{_+_, _-_, _*_, _≤_, _<_}
+use Prim.Native.Nat.{_+_, _-_, _≤_, _<_}
 use native.Mathlib.Omega.{arith}
 use borrow.Author.Needs.{needs}
 use Rattle.lists.specs.Rewrite.{Span}
 use Rattle.lists.proofs.Spans.{span-none, span-set, span-end}
-use Rattle.paper.specs.Sheets.{missing}
-use Rattle.plan.proofs.Places.{row-in}
+use Rattle.paper.specs.Sheets.{rowStart, missing}
+use Rattle.sheets.proofs.Places.{row-in}
 use Rattle.plan.proofs.clear_row.Statement.{statement}
 use Rattle.plan.proofs.clear_row.Tie as tie
 
 abbrev Inv-loop : tie.InvT-loop
 Inv-loop s q errors₀ thicknesses₀ from m₀ errors thicknesses m =
     (m ≤ s .counts + 1)
-    × Span 0 (q * (s .counts + 1)) m (λ i x. missing) errors₀ errors
-    × Span 0 (q * (s .counts + 1)) m (λ i x. 0) thicknesses₀ thicknesses
+    × Span 0 (rowStart (s .counts) q) m (λ i x. missing) errors₀ errors
+    × Span 0 (rowStart (s .counts) q) m (λ i x. 0) thicknesses₀ thicknesses
 
 abbrev μ-loop : tie.MeasureT-loop
 μ-loop s q errors₀ thicknesses₀ from m₀ errors thicknesses m = s .counts + 1 - m
 
-abbrev start : tie.At-loop Inv-loop μ-loop → tie.Start Inv-loop μ-loop
-start l = l .before .before
+module _ (l : tie.At-loop Inv-loop μ-loop) where
+  abbrev s : tie.Start Inv-loop μ-loop
+  s = l .before .before .before .before
 
-inside : (l : tie.At-loop Inv-loop μ-loop) → l .loop .m ≤ start l .args .s .counts → start l .args .q * (start l .args .s .counts + 1) + l .loop .m < start l .args .s .entries
-inside l u = let s = start l in row-in (s .args .s) (s .pre .0) (s .args .q) (l .loop .m) (s .pre .1 .0) u
+  -- the entry that a turn clears
+  inside : l .loop .m ≤ s .args .s .counts → l .before .entry-of .result + l .loop .m < s .args .s .entries
+  inside u = omega (arith, l .before .entry-of .ensures .0, row-in (s .args .s) (s .pre .0) (s .args .q) (l .loop .m) (s .pre .1 .0) u)
 
 loop-again : tie.Need-loop-again Inv-loop μ-loop
 loop-again c =
     let l = c .before .before in
-    let s = start l in (
+    let i = inside l (c .if1 .taken) in
+    let f = l .before .entry-of .ensures .0 in (
       omega arith,
-      span-set (l .loop .inv .1) _ _ refl (omega (arith, inside l (c .if1 .taken), s .pre .1 .1, l .loop .inv .1 .long)) refl,
-      span-set (l .loop .inv .2) _ _ refl (omega (arith, inside l (c .if1 .taken), s .pre .1 .2, l .loop .inv .2 .long)) refl,
+      span-set (l .loop .inv .1) _ _ (omega arith) (omega (arith, s l .pre .1 .1, l .loop .inv .1 .long)) refl,
+      span-set (l .loop .inv .2) _ _ (omega arith) (omega (arith, s l .pre .1 .2, l .loop .inv .2 .long)) refl,
     )
 
 pub clear-row-spec : {M : Type 1} → statement M
@@ -40,14 +43,13 @@ clear-row-spec =
     (tie.spec
     Inv-loop
     μ-loop
-    (λ c. search needs)
-    (λ c. let s = c .before in omega (arith, row-in (s .args .s) (s .pre .0) (s .args .q) 0 (s .pre .1 .0) (omega arith), s .pre .0 .few-entries))
+    (λ c κs. let s = c .before .before in (s .pre .0, (s .pre .1 .0, omega arith)))
     (λ c. (omega arith, span-none _ _ _, span-none _ _ _))
-    (λ c. let l = c .before .before in omega (arith, inside l (c .if1 .taken), start l .pre .0 .few-entries))
-    (λ c. let l = c .before .before in omega (arith, inside l (c .if1 .taken), start l .pre .0 .few-entries))
-    (λ c. let l = c .before .before in omega (arith, inside l (c .if1 .taken), start l .pre .1 .1, l .loop .inv .1 .long))
-    (λ c. let l = c .before .before in omega (arith, inside l (c .if1 .taken), start l .pre .1 .2, l .loop .inv .2 .long))
-    (λ c. let s = start (c .before .before) in omega (arith, s .pre .0 .few-counts))
+    (λ c. let l = c .before .before in omega (arith, inside l (c .if1 .taken), s l .pre .0 .few-entries))
+    (λ c. let l = c .before .before in omega (arith, inside l (c .if1 .taken), s l .pre .0 .few-entries))
+    (λ c. let l = c .before .before in omega (arith, inside l (c .if1 .taken), s l .pre .1 .1, l .loop .inv .1 .long))
+    (λ c. let l = c .before .before in omega (arith, inside l (c .if1 .taken), s l .pre .1 .2, l .loop .inv .2 .long))
+    (λ c. omega (arith, s (c .before .before) .pre .0 .few-counts))
     (λ c. omega arith)
     loop-again
     (λ c. c .before .before .loop .inv .1 .long)

@@ -1,14 +1,15 @@
 -- `fill_row` meets its contract. The loop's invariant: the row is that by last layers of at most t. Assumes nothing.
 use Prim.Native.Nat.{_+_, _-_, _≤_}
 use native.Mathlib.Omega.{arith}
-use Rattle.plan.specs.Rows.{rulesOf, RowTo}
+use Rattle.plan.specs.Planning.{tableRules}
+use Rattle.plan.specs.Rows.{RowTo}
 use Rattle.plan.proofs.Rows.{row-self, row-again, row-as, under-row}
 use Rattle.plan.proofs.fill_row.Statement.{statement}
 use Rattle.plan.proofs.fill_row.Tie as tie
 
 abbrev Inv-loop : tie.InvT-loop
 Inv-loop table s bound q errors₀ thicknesses₀ first t₀ errors thicknesses t =
-    (t ≤ s .tmax) × RowTo s (rulesOf s bound table) q t (s .counts + 1) errors₀ thicknesses₀ errors thicknesses
+    (t ≤ s .tmax) × RowTo s (tableRules s bound table) q t (s .counts + 1) errors₀ thicknesses₀ errors thicknesses
 
 abbrev μ-loop : tie.MeasureT-loop
 μ-loop table s bound q errors₀ thicknesses₀ first t₀ errors thicknesses t = s .tmax - t
@@ -21,7 +22,7 @@ module _ (l : tie.At-loop Inv-loop μ-loop) where
   s = r .before .before .before .before .before .before
 
   -- since the row was begun, and since before that
-  so-far : RowTo (s .args .s) (rulesOf (s .args .s) (s .args .bound) (s .args .table .now)) (s .args .q) (l .loop .t) (s .args .s .counts + 1) (s .args .errors .now) (s .args .thicknesses .now) (l .loop .errors) (l .loop .thicknesses)
+  so-far : RowTo (s .args .s) (tableRules (s .args .s) (s .args .bound) (s .args .table .now)) (s .args .q) (l .loop .t) (s .args .s .counts + 1) (s .args .errors .now) (s .args .thicknesses .now) (l .loop .errors) (l .loop .thicknesses)
   so-far = row-again (s .args .s) (s .args .bound) (s .args .table .now) (s .pre .0) (r .start-row .ensures) (l .loop .inv .1)
 
 step-row-requires : tie.Need-step-row-requires Inv-loop μ-loop

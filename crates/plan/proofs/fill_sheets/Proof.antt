@@ -1,14 +1,15 @@
 -- `fill_sheets` meets its contract. The loop's invariant: the first q rows of both sheets are filled. Assumes nothing.
 use Prim.Native.Nat.{_+_, _-_, _≤_}
 use native.Mathlib.Omega.{arith}
-use Rattle.plan.specs.Rows.{rulesOf, SheetTo}
+use Rattle.plan.specs.Planning.{tableRules}
+use Rattle.plan.specs.Rows.{SheetTo}
 use Rattle.plan.proofs.Rows.{sheet-none, sheet-under, sheet-more, sheet-whole}
 use Rattle.plan.proofs.fill_sheets.Statement.{statement}
 use Rattle.plan.proofs.fill_sheets.Tie as tie
 
 abbrev Inv-loop : tie.InvT-loop
 Inv-loop table s bound errors₀ thicknesses₀ q₀ errors thicknesses q =
-    (q ≤ s .rows + 1) × SheetTo s (rulesOf s bound table) q errors₀ thicknesses₀ errors thicknesses
+    (q ≤ s .rows + 1) × SheetTo s (tableRules s bound table) q errors₀ thicknesses₀ errors thicknesses
 
 abbrev μ-loop : tie.MeasureT-loop
 μ-loop table s bound errors₀ thicknesses₀ q₀ errors thicknesses q = s .rows + 1 - q

@@ -1,61 +1,75 @@
--- `plan` meets its contract: refusals 1 and 2 of the settings, and then those of `plan_with`. Assumes nothing.
-use mathlib.Core.Path.{_≡_, sym, ap, _∙_, subst}
-use mathlib.Core.List.{List}
+-- `plan` meets its contract: the refusals of `check_plan`, or the sheets and the list are filled. Assumes nothing.
+use mathlib.Core.Path.{_≡_, sym, ap, subst, _∙_}
 use mathlib.Core.Option.{none}
-use Prim.Native.Nat.{ℕ}
 use borrow.Author.Needs.{needs}
+use lib.ListN.{length}
+use Prim.Native.Nat.{ℕ}
 use Rattle.lists.specs.Checks.{first}
-use Rattle.paper.specs.Sequence.{M}
-use Rattle.plate.specs.Refusal.{Told, numberOf, refused, decided, after, told}
-use Rattle.plate.specs.Settings.{Passed, settingsChecks, settingsOf, toldMade}
-use Rattle.plate.specs.declared.refusal.Reason.{Reason}
-use Rattle.plate.specs.declared.refusal.Answer.{Answer}
-use Rattle.plate.specs.declared.refusal.Answer.the-variants.{Refused}
+use Rattle.plate.specs.Call.{Does}
+use Rattle.plate.specs.Head.{Held, heldIn, SettingsFor}
+use Rattle.plate.specs.Refusal.{done, refusal}
+use Rattle.plate.specs.Settings.{saidMade, Judges}
+use Rattle.plate.specs.declared.refusal.Refusal.{Refusal}
 use Rattle.plate.specs.declared.settings.Made.{Made}
-use Rattle.plate.specs.declared.settings.Made.the-variants.{Good, Bad}
+use Rattle.plate.specs.declared.settings.Made.the-variants.{Bad}
 use Rattle.plate.specs.declared.settings.Settings.{Settings}
-use Rattle.plate.proofs.Decided.{settings-bad, settings-good, after-refused}
-use Rattle.plan.specs.Plan.{Sheets, sheetsOf, planRest, planAnswer, planned, planSheets, Fills}
+use Rattle.plate.proofs.Calls.{judged-bad, works}
+use Rattle.plan.specs.Plan.{Sheets, sheetsOf, planChecks, planned, planning, Plannable}
+use Rattle.plan.proofs.Passed.{counts-for, plan-passed}
 use Rattle.plan.proofs.plan.Statement.{statement}
 use Rattle.plan.proofs.plan.Tie as tie
 
-module _ (N T c : ℕ) (table : List ℕ) (bound : ℕ) (lent : Sheets) where
-  bad : (r : Answer) (reason : Reason) → r ≡ Refused (record { reason = reason; place = 0 }) → toldMade (Bad reason) ≡ decided (settingsChecks N T) (settingsOf N T)
-      → (told r ≡ planAnswer N T c table lent) × (lent ≡ planSheets N T c table bound lent)
-  unfolding planSheets planAnswer
-  bad r reason e q =
-      let a = settings-bad N T (planRest N T c table lent) (M N T) reason q in
-      (ap told e ∙ a, after-refused _ (numberOf reason) 0 (planned N T bound table lent) lent a)
+module _ (held : Held) (bound : ℕ) (lent : Sheets) where
+  abbrev checked : Made → Type 0
+  checked made = Judges made (planChecks held (length (lent .errors)) (length (lent .thicknesses)) (length (lent .leasts))) (held .head .height) (held .head .members)
 
-  good : (s : Settings) (r : Answer) (left : Sheets) → Passed (Good s) N T → Fills (planRest (s .height) (s .members) c table lent) (s .height) (s .members) bound table (told r) lent left
-      → (told r ≡ planAnswer N T c table lent) × (left ≡ planSheets N T c table bound lent)
-  unfolding planSheets planAnswer
-  good s r left p f =
-      let b = subst (λ (s : Settings). Fills (planRest (s .height) (s .members) c table lent) (s .height) (s .members) bound table (told r) lent left) (p .1) f in
-      let e = b .tells ∙ settings-good N T (planRest N T c table lent) (M N T) (p .0) in
-      (e, b .leaves ∙ ap (λ (t : Told ℕ). after t (planned N T bound table lent) lent) e)
+  bad : {made : Made} → checked made → (r : Refusal) → made ≡ Bad r → Does (planning held bound lent) (refusal r) lent
+  unfolding planning
+  bad j r e = judged-bad (planning held bound lent) j r e
 
-made : (c : tie.After-known-told2)
-    → Passed (Good (c .before .made2 .given .0 .0)) (c .before .before .before .before .before .before .before .before .args .height) (c .before .before .before .before .before .before .before .before .args .members)
-made c =
-    let s = c .before .before .before .before .before .before .before .before in
-    subst (λ (m : Made). Passed m (s .args .height) (s .args .members)) (c .before .made2 .given .1) (c .before .before .before .new .ensures .1)
+  good : (s : Settings) → SettingsFor (held .head) s → none ≡ first (planChecks held (length (lent .errors)) (length (lent .thicknesses)) (length (lent .leasts)))
+      → (left : Sheets) → left ≡ planned (s .height) (s .members) bound (held .buffer) lent → Does (planning held bound lent) (done (s .counts)) left
+  unfolding planning
+  good s k e left w =
+      works (planning held bound lent) (s .counts) left e (counts-for k)
+      (subst (λ (s : Settings). left ≡ planned (s .height) (s .members) bound (held .buffer) lent) (k .is) w)
 
-plan-with-requires : tie.Need-plan-with-requires
-plan-with-requires c κs =
-    let p = made (c .before .before .before) in
-    (p .2, subst (λ (s : Settings). first (settingsChecks (s .height) (s .members)) ≡ none) (sym (p .1)) (p .0))
+module _ (c : tie.After-known-told2) where
+  abbrev s : tie.Start
+  s = c .before .before .before .before .before .before .before .before
+
+  abbrev held : Held
+  held = heldIn (s .args .head) (s .args .table .now)
+
+  abbrev lent : Sheets
+  lent = sheetsOf (s .args .errors .now) (s .args .thicknesses .now) (s .args .list .now)
+
+  abbrev made : Settings
+  made = c .before .made2 .given .0 .0
+
+  for : SettingsFor (s .args .head) made
+  for = let g = c .before .before .before .check-plan .ensures .good _ (c .before .made2 .given .1) in record { is = g .0; sound = g .1 }
+
+  passed : none ≡ first (planChecks held (length (lent .errors)) (length (lent .thicknesses)) (length (lent .leasts)))
+  passed = ap saidMade (sym (c .before .made2 .given .1)) ∙ c .before .before .before .check-plan .ensures .says
 
 returns : tie.Need-returns
 returns c =
-    let s = c .before .before .before .before .before .before .before .before .before in
-    bad _ _ _ _ _ (sheetsOf (s .args .errors .now) (s .args .thicknesses .now) (s .args .list .now)) _ (c .before .before .made .given .0 .0) (c .refused .ensures)
-    (ap toldMade (sym (c .before .before .made .given .1)) ∙ c .before .before .before .before .new .ensures .0)
+    let k = c .before .before .before in
+    bad _ _ _ (k .check-plan .ensures) (c .before .made .given .0 .0) (c .before .made .given .1)
+
+plan-sheets-requires : tie.Need-plan-sheets-requires
+plan-sheets-requires c κs =
+    let k = c .before .before .before in
+    let p = plan-passed (held k) _ _ _ (for k) (passed k) in
+    (p .ready, (p .errors-whole, p .thicknesses-whole, p .leasts-whole))
 
 returns-2 : tie.Need-returns-2
 returns-2 c =
-    let d = c .before .before .before .before .before .before in
-    good _ _ _ _ _ _ _ (d .plan-with .result) _ (made (d .before .before .before .before)) (d .plan-with .ensures)
+    let p = c .before .before .before .before .before .before in
+    let k = p .before .before .before .before in
+    let w = p .plan-sheets .ensures in
+    good (held k) _ (lent k) (made k) (for k) (passed k) _ (λ i. sheetsOf (w .0 i) (w .1 .0 i) (w .1 .1 i))
 
 pub plan-spec : {M : Type 1} → statement M
 plan-spec =
@@ -63,9 +77,8 @@ plan-spec =
     (tie.spec
     (λ c κs. search needs)
     (λ c. search needs)
-    (λ c κs. search needs)
     (λ c. search needs)
-    plan-with-requires
+    plan-sheets-requires
     returns
     (λ c. search needs)
     (λ c. search needs)

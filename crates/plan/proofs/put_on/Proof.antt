@@ -6,12 +6,13 @@ use native.Mathlib.Omega.{arith}
 use borrow.Author.Needs.{needs}
 use lib.ListN.{getD}
 use Rattle.paper.specs.Sheets.{missing}
+use Rattle.plan.specs.Planning.{greatestError}
 use Rattle.plan.specs.Putting.{sumAt, Placed}
 use Rattle.plan.proofs.Putting.{put-less, put-keep}
 use Rattle.plan.proofs.put_on.Statement.{statement}
 use Rattle.plan.proofs.put_on.Tie as tie
 
-few : {from to : ℕ} {E F : List ℕ} → Placed from to 1 E F → (getD E from 0 ≡ missing → ⊥) → getD E from 0 ≤ 9_184_000_000
+few : {from to : ℕ} {E F : List ℕ} → Placed from to 1 E F → (getD E from 0 ≡ missing → ⊥) → getD E from 0 ≤ greatestError
 few {from} r = let e : from ≡ from + 0 = omega arith in rw e (r .few 0 (omega arith))
 
 returns : tie.Need-returns

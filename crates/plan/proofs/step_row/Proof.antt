@@ -1,6 +1,7 @@
 -- `step_row` meets its contract: a thickness that would start under the lowest row, or is not permitted, changes nothing. Assumes nothing.
 use borrow.Author.Needs.{needs}
-use Rattle.plan.proofs.Rows.{kept, usable, via-forbidden, via-under, row-same}
+use Rattle.sequence.proofs.BestTo.{kept}
+use Rattle.plan.proofs.Rows.{permitted, via-forbidden, via-under, row-same}
 use Rattle.plan.proofs.step_row.Statement.{statement}
 use Rattle.plan.proofs.step_row.Tie as tie
 
@@ -8,7 +9,7 @@ relax-requires : tie.Need-relax-requires
 relax-requires c κs =
     let s = c .before .before .before .before .before .before .before .before in
     let m = c .before .before .before in
-    let u = usable (s .args .s) _ _ (s .pre .0) _ (s .args .t) _ (s .pre .1 .1 .0 .0) (s .pre .1 .1 .0 .1) (m .before .if1 .taken) (m .may-use .ensures) (c .before .before .if2 .taken) in
+    let u = permitted (s .args .s) _ _ (s .pre .0) _ (s .args .t) _ (s .pre .1 .1 .0 .0) (s .pre .1 .1 .0 .1) (m .before .if1 .taken) (m .may-use .ensures) (c .before .before .if2 .taken) in
     (s .pre .0, (s .pre .1 .0, (u, (s .pre .1 .1 .0 .2, s .pre .1 .1 .1))))
 
 returns-2 : tie.Need-returns-2

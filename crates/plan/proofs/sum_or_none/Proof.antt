@@ -8,6 +8,7 @@ use borrow.Author.Tests.{eq-eqb, ne-eqb}
 use Rattle.paper.specs.Sheets.{missing}
 use Rattle.sequence.specs.Least.{plus}
 use Rattle.sequence.specs.Sheets.{mark, unmark}
+use Rattle.plan.specs.Planning.{greatestError}
 use Rattle.plan.proofs.sum_or_none.Statement.{statement}
 use Rattle.plan.proofs.sum_or_none.Tie as tie
 
@@ -19,7 +20,7 @@ sum-some : (e cell : ℕ) → (e ≡ missing → ⊥) → e + cell ≡ mark (plu
 unfolding unmark
 sum-some e cell n = simp (ne-eqb e missing n)
 
-module _ (e cell : ℕ) (few : (e ≡ missing → ⊥) → e ≤ 9_184_000_000) (u : cell < 4294967296) where
+module _ (e cell : ℕ) (few : (e ≡ missing → ⊥) → e ≤ greatestError) (u : cell < 4294967296) where
   beyond : missing - cell < e → Dec (e ≡ missing) → missing ≡ mark (plus cell (unmark e))
   beyond l (yes q) = sum-none e cell q
   beyond l (no n) = absurd (omega (arith, few n))

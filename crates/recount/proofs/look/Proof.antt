@@ -1,70 +1,64 @@
--- `look` meets its contract: its tests are those of `outBetween`, one after the other, and past them the layer's cell lies in the table.
--- Assumes nothing.
-use mathlib.Core.Path.{_≡_, refl, sym, _∙_}
+-- `look` meets its contract: boundaries that do not rise have no thickness between them, and else the row where the layer starts tells its
+-- shape, and its cell its error. Assumes nothing.
+use mathlib.Core.Path.{_≡_, refl, sym, ap, _∙_}
 use mathlib.Core.Bool.{true}
-use Prim.Native.Nat.{ℕ, _+_, _-_, _*_, _<_}
+use Prim.Native.Nat.{ℕ, _+_, _-_}
 use native.Mathlib.Omega.{arith}
 use borrow.Author.Needs.{needs}
 use borrow.Author.Tests.{not-true, not-false}
-use lib.ListN.{getD}
-use Rattle.paper.specs.Layer.{allowed}
-use Rattle.paper.proofs.Thicknesses.{allowed-under, allowed-tmax}
+use Rattle.paper.proofs.Thicknesses.{allowed-under, allowed-to}
+use Rattle.plate.specs.Datum.{rowOf, atRow}
+use Rattle.sequence.specs.Rules.{shape}
+use Rattle.sequence.proofs.Layers.{shape-barred, shape-allowed, shape-to}
+use Rattle.sheets.specs.Layers.{isLayer}
+use Rattle.sheets.proofs.Layers.{shape-row}
 use Rattle.table.specs.Cells.{cellFrom}
-use Rattle.table.proofs.Cells.{cell-in, cell-read}
-use Rattle.recount.proofs.Layers.{out-difference, out-high, out-bound, in-bound}
+use Rattle.table.proofs.Cells.{cell-read}
+use Rattle.recount.proofs.Layers.{out-shape, out-bound, in-bound}
 use Rattle.recount.proofs.look.Statement.{statement}
 use Rattle.recount.proofs.look.Tie as tie
 
--- past the test on the difference
+-- the shape by the row is that by the height
+shape-here : (a : tie.Start) → isLayer (a .args .s) (rowOf (a .args .s .tmax) (a .args .below)) (a .args .above - a .args .below)
+    ≡ shape (a .args .s .height) (a .args .s .members) (a .args .below) (a .args .above - a .args .below)
+shape-here a =
+    let e : atRow (a .args .s .tmax) (rowOf (a .args .s .tmax) (a .args .below)) ≡ a .args .below = omega arith in
+    shape-row (a .args .s) (a .pre .0) _ _ ∙ ap (λ (h : ℕ). shape (a .args .s .height) (a .args .s .members) h (a .args .above - a .args .below)) e
+
+-- past the test on the shape
 module _ (c : tie.Else2) where
   abbrev a : tie.Start
-  a = c .before .before .before .before
+  a = c .before .before .before .before .before
 
-  in-set : allowed (a .args .s .members) (a .args .above - a .args .below) ≡ true
-  in-set = sym (c .before .is-allowed .ensures) ∙ not-false _ (c .if2 .left)
+  in-shape : shape (a .args .s .height) (a .args .s .members) (a .args .below) (a .args .above - a .args .below) ≡ true
+  in-shape = sym (shape-here a) ∙ sym (c .before .is-layer .ensures) ∙ not-false _ (c .if2 .left)
 
--- past the test on the end
-module _ (c : tie.Else3) where
-  abbrev s : tie.Start
-  s = a (c .before .before)
+-- past the cell
+module _ (c : tie.After-cell-of) where
+  abbrev d : tie.Else2
+  d = c .before .before
 
-  -- where it reads
-  abbrev at : ℕ
-  at = (s .args .below + s .args .s .tmax - 33) * s .args .s .tmax + (s .args .above - s .args .below - 1)
-
-  inside : at < s .args .s .cells
-  inside =
-      let k = s .pre .0 in
-      cell-in k (s .args .below + s .args .s .tmax - 33) (omega (arith, k .rows-are)) (s .args .above - s .args .below - 1)
-      (omega (arith, allowed-tmax _ _ (in-set (c .before .before)), k .greatest))
-
-  reads : getD (s .args .table .now) at 0 ≡ cellFrom (s .args .s .members) (s .args .table .now) (s .args .below) (s .args .above - s .args .below)
-  reads = cell-read _ _ _ _ _ _ (s .pre .0 .greatest) refl
+  reads : c .cell-of .result ≡ cellFrom (a d .args .s .members) (a d .args .table .now) (a d .args .below) (a d .args .above - a d .args .below)
+  reads = c .cell-of .ensures ∙ cell-read _ _ _ _ _ _ (a d .pre .0 .greatest) refl
 
 returns : tie.Need-returns
-returns c = out-difference _ _ _ _ _ _ (allowed-under _ _ (omega arith))
+returns c = out-shape _ _ _ _ _ _ (shape-barred _ _ _ _ (allowed-under _ _ (omega arith)))
 
 returns-2 : tie.Need-returns-2
-returns-2 c = out-difference _ _ _ _ _ _ (sym (c .before .is-allowed .ensures) ∙ not-true _ (c .if2 .taken))
+returns-2 c = let i = c .before in out-shape _ _ _ _ _ _ (sym (shape-here (i .before .before .before .before)) ∙ sym (i .is-layer .ensures) ∙ not-true _ (c .if2 .taken))
 
 returns-3 : tie.Need-returns-3
-returns-3 c = out-high _ _ _ _ _ _ (in-set (c .before .before)) (omega (arith, a (c .before .before) .pre .0 .greatest))
+returns-3 c = let k = c .before in out-bound _ _ _ _ _ _ (in-shape (d k)) (omega (arith, reads k))
 
 returns-4 : tie.Need-returns-4
 returns-4 c =
-    let e = c .before .before .before .before in
-    out-bound _ _ _ _ _ _ (in-set (e .before .before)) (omega (arith, s e .pre .0 .greatest)) (omega (arith, reads e))
-
-returns-5 : tie.Need-returns-5
-returns-5 c =
-    let e = c .before .before .before .before in
-    let g = s e .pre .0 .greatest in
+    let k = c .before in
     record {
-      admissible = in-bound _ _ _ _ _ _ (in-set (e .before .before)) (omega (arith, g)) (omega (arith, reads e));
-      is = reads e;
+      admissible = in-bound _ _ _ _ _ _ (in-shape (d k)) (omega (arith, reads k));
+      is = reads k;
       rises = omega arith;
-      ends = omega (arith, g);
-      small = omega (arith, c .before .shared-slice-known2 .given (at e));
+      ends = omega (arith, shape-to _ _ _ _ (in-shape (d k)));
+      small = omega arith;
     }
 
 pub look-spec : {M : Type 1} → statement M
@@ -73,18 +67,14 @@ look-spec =
     (tie.spec
     returns
     (λ c. search needs)
+    (λ c. let a = c .before .before .before in omega (arith, a .pre .0 .high, a .pre .0 .thick))
+    (λ c. search needs)
     (λ c κs. search needs)
     returns-2
-    (λ c. search needs)
-    (λ c. search needs)
+    (λ c. let a = c .before .before .before .before .before .before in omega (arith, a .pre .0 .thick))
+    (λ c. let a = c .before .before .before .before .before .before in omega (arith, a .pre .0 .high, a .pre .0 .thick))
+    (λ c. omega (arith, allowed-to _ _ (shape-allowed _ _ _ _ (in-shape (c .before)))))
+    (λ c κs. search needs)
     returns-3
     (λ c. search needs)
-    (λ c. search needs)
-    (λ c. let e = c .before .before in omega (arith, inside e, s e .pre .0 .few-cells))
-    (λ c. search needs)
-    (λ c. let e = c .before .before in omega (arith, inside e, s e .pre .0 .few-cells))
-    (λ c. let e = c .before .before in omega (arith, inside e, s e .pre .0 .few-cells))
-    (λ c. let e = c .before .before .before in omega (arith, inside e, s e .pre .1 .0))
-    returns-4
-    (λ c. search needs)
-    returns-5)
+    returns-4)

@@ -11,12 +11,15 @@ use Rattle.paper.specs.Table.{ofTable}
 use Rattle.paper.specs.Sequence.{_!_, errorUnder}
 use Rattle.plate.specs.Datum.{datum}
 use Rattle.plate.specs.Refusal.{told, refused}
+use Rattle.plate.specs.declared.refusal.Answer.the-variants.{Refused}
+use Rattle.plate.specs.declared.refusal.Refusal.{Refusal}
+use Rattle.sequence.proofs.Layers.{start-from, start-to}
 use Rattle.recount.specs.declared.Layer.{Layer}
 use Rattle.recount.specs.declared.Layer.the-variants.{Out, Error}
-use Rattle.recount.specs.Layers.{Looked, outBetween}
-use Rattle.recount.specs.Recount.{layerOut}
+use Rattle.recount.specs.Layers.{Looked}
+use Rattle.recount.specs.Recount.{outBetween, layerOut}
 use Rattle.recount.proofs.Layers.{layer-between, one-more}
-use Rattle.recount.proofs.Answers.{starts-in, out-layer, ends-low, admissible}
+use Rattle.recount.proofs.Answers.{out-layer, ends-low, admissible}
 use Rattle.recount.proofs.recount_layers.Statement.{statement}
 use Rattle.recount.proofs.recount_layers.Tie as tie
 
@@ -29,6 +32,15 @@ Inv-loop table s bound sequence n below₀ sum₀ k₀ below sum k =
 
 abbrev μ-loop : tie.MeasureT-loop
 μ-loop table s bound sequence n below₀ sum₀ k₀ below sum k = n - k
+
+loop-holds : tie.Need-loop-holds Inv-loop μ-loop
+loop-holds c =
+    let s = c .before .before in
+    let from = start-from _ _ (s .pre .1 .starts-in) in
+    let to = start-to _ _ (s .pre .1 .starts-in) in
+    let d = c .datum-at .ensures in
+    let g = s .pre .0 .greatest in
+    (omega arith, omega (arith, s .pre .0 .thick), omega arith, omega (arith, s .pre .0 .low), omega arith, d, below-none _, refl)
 
 -- a layer that is looked at, between the heights zk and z(k + 1)
 module _ (c : tie.After-look Inv-loop μ-loop) where
@@ -52,8 +64,8 @@ returns : tie.Need-returns Inv-loop μ-loop
 returns c =
     let k = c .before .before .before in
     let p = s k .pre in
-    ap told (c .refused .ensures)
-    ∙ out-layer _ _ _ _ _ (p .1 .1 .layered) (starts-in (p .0) _ (p .1 .1)) (l k .loop .k) (l k .loop .inv .6) (omega arith) (between k ∙ told-of k Out (c .before .enum-told .given .1))
+    ap (λ (r : Refusal). told (Refused r)) (c .refusal-at .ensures)
+    ∙ out-layer _ _ _ _ _ (p .1 .layered) (p .1 .starts-in) (l k .loop .k) (l k .loop .inv .6) (omega arith) (between k ∙ told-of k Out (c .before .enum-told .given .1))
 
 add-sum : tie.Need-add-sum Inv-loop μ-loop
 add-sum c = let k = c .before .before .before in omega (arith, told-of k (Error (c .before .layer .given .0 .0)) (c .before .layer .given .1), s k .pre .0 .high, s k .pre .0 .thick)
@@ -78,15 +90,15 @@ returns-2 c =
     let d = c .before .before .before .before in
     let p = d .before .before .before .pre in
     let e : d .loop .k ≡ length (d .before .before .before .args .sequence .now) - 1 = omega arith in
-    ap told (c .refused2 .ensures)
+    ap (λ (r : Refusal). told (Refused r)) (c .refusal-at2 .ensures)
     ∙ ap (refused 13) (sym e)
-    ∙ ends-low _ _ _ _ _ (p .1 .1 .layered) (starts-in (p .0) _ (p .1 .1)) (d .loop .k) (d .loop .inv .6) e _ (d .loop .inv .5) (omega arith)
+    ∙ ends-low _ _ _ _ _ (p .1 .layered) (p .1 .starts-in) (d .loop .k) (d .loop .inv .6) e _ (d .loop .inv .5) (omega arith)
 
 returns-3 : tie.Need-returns-3 Inv-loop μ-loop
 returns-3 c =
     let d = c .before .before .before in
     let p = d .before .before .before .pre in
-    admissible _ _ _ _ _ (p .1 .1 .layered) (starts-in (p .0) _ (p .1 .1)) (d .loop .k) (d .loop .inv .6) (omega arith) _ (d .loop .inv .5) (omega arith) _ (d .loop .inv .7)
+    admissible _ _ _ _ _ (p .1 .layered) (p .1 .starts-in) (d .loop .k) (d .loop .inv .6) (omega arith) _ (d .loop .inv .5) (omega arith) _ (d .loop .inv .7)
 
 pub recount-layers-spec : {M : Type 1} → statement M
 recount-layers-spec =
@@ -96,7 +108,7 @@ recount-layers-spec =
     μ-loop
     (λ c. omega arith)
     (λ c κs. omega arith)
-    (λ c. (omega arith, omega (arith, c .datum-at .ensures), omega (arith, c .datum-at .ensures), omega (arith, c .datum-at .ensures), omega arith, c .datum-at .ensures, below-none _, refl))
+    loop-holds
     (λ c. omega arith)
     (λ c κs. omega arith)
     (λ c κs. search needs)

@@ -1,7 +1,7 @@
 -- `shagorent_clear_table` meets its contract: the reply is what `clear_table` tells. Assumes nothing.
 use borrow.Author.Needs.{needs}
-use mathlib.Core.Path.{ap, _∙_}
 use Rattle.shagorent.specs.Replies.{tableReply}
+use Rattle.shagorent.proofs.Replies.{replies}
 use Rattle.shagorent.proofs.shagorent_clear_table.Statement.{statement}
 use Rattle.shagorent.proofs.shagorent_clear_table.Tie as tie
 
@@ -12,4 +12,4 @@ shagorent-clear-table-spec =
     (λ c κs. search needs)
     (λ c κs. search needs)
     (λ c. search needs)
-    (λ c. (c .table-reply .ensures ∙ ap tableReply (c .before .before .before .clear-table .ensures .0), c .before .before .before .clear-table .ensures .1)))
+    (λ c. replies tableReply _ (c .before .before .before .clear-table .ensures) _ (c .table-reply .ensures)))

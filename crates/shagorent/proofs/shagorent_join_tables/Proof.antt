@@ -1,7 +1,7 @@
 -- `shagorent_join_tables` meets its contract: the reply is what `join_tables` tells. Assumes nothing.
 use borrow.Author.Needs.{needs}
-use mathlib.Core.Path.{ap, _∙_}
 use Rattle.shagorent.specs.Replies.{tableReply}
+use Rattle.shagorent.proofs.Replies.{replies}
 use Rattle.shagorent.proofs.shagorent_join_tables.Statement.{statement}
 use Rattle.shagorent.proofs.shagorent_join_tables.Tie as tie
 
@@ -12,4 +12,4 @@ shagorent-join-tables-spec =
     (λ c κs. search needs)
     (λ c κs. search needs)
     (λ c. search needs)
-    (λ c. (c .table-reply .ensures ∙ ap tableReply (c .before .before .before .join-tables .ensures .0), c .before .before .before .join-tables .ensures .1)))
+    (λ c. replies tableReply _ (c .before .before .before .join-tables .ensures) _ (c .table-reply .ensures)))

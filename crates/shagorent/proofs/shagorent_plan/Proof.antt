@@ -1,7 +1,7 @@
 -- `shagorent_plan` meets its contract: the reply is what `plan` tells. Assumes nothing.
 use borrow.Author.Needs.{needs}
-use mathlib.Core.Path.{ap, _∙_}
 use Rattle.shagorent.specs.Replies.{reply}
+use Rattle.shagorent.proofs.Replies.{replies}
 use Rattle.shagorent.proofs.shagorent_plan.Statement.{statement}
 use Rattle.shagorent.proofs.shagorent_plan.Tie as tie
 
@@ -14,4 +14,4 @@ shagorent-plan-spec =
     (λ c. search needs)
     (λ c. search needs)
     (λ c. search needs)
-    (λ c. (c .reply-of .ensures ∙ ap reply (c .before .before .before .before .before .before .before .plan .ensures .0), c .before .before .before .before .before .before .before .plan .ensures .1)))
+    (λ c. replies reply _ (c .before .before .before .before .before .before .before .plan .ensures) _ (c .reply-of .ensures)))

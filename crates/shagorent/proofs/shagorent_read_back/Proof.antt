@@ -1,7 +1,7 @@
 -- `shagorent_read_back` meets its contract: the reply is what `read_back` tells. Assumes nothing.
 use borrow.Author.Needs.{needs}
-use mathlib.Core.Path.{ap, _∙_}
 use Rattle.shagorent.specs.Replies.{reply}
+use Rattle.shagorent.proofs.Replies.{replies}
 use Rattle.shagorent.proofs.shagorent_read_back.Statement.{statement}
 use Rattle.shagorent.proofs.shagorent_read_back.Tie as tie
 
@@ -12,4 +12,4 @@ shagorent-read-back-spec =
     (λ c κs. search needs)
     (λ c κs. search needs)
     (λ c. search needs)
-    (λ c. (c .reply-of .ensures ∙ ap reply (c .before .before .read-back .ensures .0), c .before .before .read-back .ensures .1)))
+    (λ c. replies reply _ (c .before .before .read-back .ensures) _ (c .reply-of .ensures)))

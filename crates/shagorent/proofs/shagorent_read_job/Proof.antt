@@ -1,7 +1,7 @@
 -- `shagorent_read_job` meets its contract: the reply is what `read_job` tells. Assumes nothing.
 use borrow.Author.Needs.{needs}
-use mathlib.Core.Path.{ap, _∙_}
 use Rattle.shagorent.specs.Replies.{jobReply}
+use Rattle.shagorent.proofs.Replies.{replies}
 use Rattle.shagorent.proofs.shagorent_read_job.Statement.{statement}
 use Rattle.shagorent.proofs.shagorent_read_job.Tie as tie
 
@@ -12,4 +12,4 @@ shagorent-read-job-spec =
     (λ c κs. search needs)
     (λ c κs. search needs)
     (λ c. search needs)
-    (λ c. (c .job-reply .ensures ∙ ap jobReply (c .before .before .before .read-job .ensures .0), c .before .before .before .read-job .ensures .1)))
+    (λ c. replies jobReply _ (c .before .before .before .read-job .ensures) _ (c .job-reply .ensures)))

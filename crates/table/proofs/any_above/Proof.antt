@@ -7,13 +7,13 @@ use native.Mathlib.Omega.{arith}
 use borrow.Author.Count.{below-none, below-more}
 use borrow.Author.Needs.{needs}
 use Rattle.lists.proofs.Checks.{or-false}
-use Rattle.table.specs.Limits.{above, Within}
+use Rattle.table.specs.Limits.{above, NoneAbove}
 use Rattle.table.proofs.any_above.Statement.{statement}
 use Rattle.table.proofs.any_above.Tie as tie
 
 abbrev Inv-loop : tie.InvT-loop
 Inv-loop table limits base next width end found₀ j₀ found j =
-    (j ≤ width) × (end ≡ width) × (found ≡ false → Within limits table base j × Within limits table next j)
+    (j ≤ width) × (end ≡ width) × (found ≡ false → NoneAbove limits table base j × NoneAbove limits table next j)
 
 abbrev μ-loop : tie.MeasureT-loop
 μ-loop table limits base next width end found₀ j₀ found j = width - j
@@ -38,7 +38,7 @@ any-above-spec =
     Inv-loop
     μ-loop
     (λ c κs. search needs)
-    (λ c. (omega arith, c .row-end .ensures, λ z. (below-none _, below-none _)))
+    (λ c. (omega arith, omega (arith, c .row-end .ensures), λ z. (below-none _, below-none _)))
     (λ c. search needs)
     (λ c. search needs)
     (λ c. search needs)

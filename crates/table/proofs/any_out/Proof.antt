@@ -7,14 +7,14 @@ use native.Mathlib.Omega.{arith}
 use borrow.Author.Count.{below-more}
 use borrow.Author.Needs.{needs}
 use Rattle.lists.proofs.Checks.{or-false}
-use Rattle.table.specs.Limits.{Within}
+use Rattle.table.specs.Limits.{NoneAbove}
 use Rattle.table.proofs.Cells.{row-in}
 use Rattle.table.proofs.any_out.Statement.{statement}
 use Rattle.table.proofs.any_out.Tie as tie
 
 abbrev Inv-loop : tie.InvT-loop
 Inv-loop table limits s found₀ row₀ found row =
-    found ≡ false → (k : ℕ) → k < row → k < s .rows → Within limits table (k * s .tmax) (s .tmax)
+    found ≡ false → (k : ℕ) → k < row → k < s .rows → NoneAbove limits table (k * s .tmax) (s .tmax)
 
 abbrev μ-loop : tie.MeasureT-loop
 μ-loop table limits s found₀ row₀ found row = s .rows - row

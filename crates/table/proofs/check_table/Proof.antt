@@ -1,36 +1,25 @@
--- `check_table` meets its contract: refusals 1 and 2 of the settings, and then those of `check_rest`. Assumes nothing.
-use mathlib.Core.Path.{_≡_, sym, ap, _∙_, subst}
-use mathlib.Core.List.{List}
-use mathlib.Core.Option.{some}
-use Prim.Native.Nat.{ℕ}
+-- `check_table` meets its contract: the refusals of the settings, and then those of `check_rest`. Assumes nothing.
+use mathlib.Core.Path.{_≡_, refl, sym, ap, _∙_}
 use borrow.Author.Needs.{needs}
-use Rattle.lists.specs.Checks.{first}
-use Rattle.plate.specs.Refusal.{numberOf, decided}
-use Rattle.plate.specs.Checked.{saidBy}
-use Rattle.plate.specs.Settings.{Passed, settingsChecks, settingsOf, toldMade}
-use Rattle.plate.specs.declared.refusal.Reason.{Reason}
-use Rattle.plate.specs.declared.settings.Made.{Made}
-use Rattle.plate.specs.declared.settings.Made.the-variants.{Good, Bad}
-use Rattle.plate.specs.declared.settings.Settings.{Settings}
-use Rattle.plate.proofs.Decided.{settings-said, settings-pass}
-use Rattle.table.specs.Calls.{tableRest, tableChecks}
+use Rattle.plate.specs.Settings.{saidMade}
+use Rattle.plate.specs.Head.{headChecks}
+use Rattle.plate.proofs.Calls.{judges-bad, judges-then, stopped}
+use Rattle.table.specs.Table.{tableRest, tableChecks}
 use Rattle.table.proofs.check_table.Statement.{statement}
 use Rattle.table.proofs.check_table.Tie as tie
 
-module _ (N T c : ℕ) (table : List ℕ) where
-  bad : (reason : Reason) → toldMade (Bad reason) ≡ decided (settingsChecks N T) (settingsOf N T)
-      → some (record { number = numberOf reason; place = 0 }) ≡ first (tableChecks N T c table)
-  unfolding tableChecks
-  bad reason e = settings-said N T (tableRest N T c table) reason e
+returns : tie.Need-returns
+unfolding tableChecks
+returns c =
+    let m = c .before .made .given in
+    judges-bad _ _ _ _ _ refl (stopped (c .before .before .before .new .ensures) (tableRest _) (m .0 .0) (m .1))
 
-  good : (s : Settings) → Passed (Good s) N T → first (tableRest (s .height) (s .members) c table) ≡ first (tableChecks N T c table)
-  unfolding tableChecks
-  good s p = ap (λ (s : Settings). first (tableRest (s .height) (s .members) c table)) (p .1) ∙ settings-pass N T (tableRest N T c table) (p .0)
-
-made : (c : tie.After-known-told2) → Passed (Good (c .before .made2 .given .0 .0)) (c .before .before .before .before .before .args .height) (c .before .before .before .before .before .args .members)
-made c =
-    let s = c .before .before .before .before .before in
-    subst (λ (m : Made). Passed m (s .args .height) (s .args .members)) (c .before .made2 .given .1) (c .before .before .before .new .ensures .1)
+returns-2 : tie.Need-returns-2
+unfolding tableChecks
+returns-2 c =
+    let n = c .before .before .before .before .new .ensures in
+    let s = c .before .before .before .before .before .before in
+    judges-then _ _ _ (headChecks (s .args .head)) (sym (ap saidMade (sym (c .before .before .made2 .given .1)) ∙ n .says)) (c .check-rest .ensures)
 
 pub check-table-spec : {M : Type 1} → statement M
 check-table-spec =
@@ -38,10 +27,7 @@ check-table-spec =
     (tie.spec
     (λ c κs. search needs)
     (λ c. search needs)
-    (λ c κs. search needs)
     (λ c. search needs)
-    (λ c κs. made c .2)
-    (λ c.
-    ap saidBy (c .fails .ensures)
-    ∙ bad _ _ _ _ (c .before .before .made .given .0 .0) (ap toldMade (sym (c .before .before .made .given .1)) ∙ c .before .before .before .before .new .ensures .0))
-    (λ c. c .check-rest .ensures ∙ good _ _ _ _ _ (made (c .before))))
+    (λ c κs. let g = c .before .before .before .new .ensures .good _ (c .before .made2 .given .1) in record { is = g .0; sound = g .1 })
+    returns
+    returns-2)

@@ -1,67 +1,66 @@
 -- `clear_table` meets its contract: refusals 1, 2 and 3, or every cell is 0. Assumes nothing.
-use mathlib.Core.Path.{_≡_, sym, ap, _∙_, subst}
+use mathlib.Core.Path.{_≡_, sym, ap, _∙_}
 use mathlib.Core.List.{List, [], _∷_}
+use mathlib.Core.Option.{none}
 use Prim.Native.Nat.{ℕ, _≤_}
 use lib.ListN.{length}
 use native.Mathlib.Omega.{arith}
 use borrow.Author.Needs.{needs}
+use borrow.Author.Tests.{ltb-false}
+use Rattle.lists.specs.Checks.{first}
 use Rattle.lists.specs.Rewrite.{Span}
+use Rattle.lists.proofs.Checks.{first-none, first-later}
 use Rattle.lists.proofs.Spans.{span-is}
 use Rattle.paper.specs.Table.{cells}
-use Rattle.plate.specs.Refusal.{refused, numberOf, decided}
-use Rattle.plate.specs.Settings.{Passed, settingsChecks, settingsOf, toldMade}
-use Rattle.plate.specs.declared.refusal.Reason.{Reason}
-use Rattle.plate.specs.declared.settings.Made.{Made}
-use Rattle.plate.specs.declared.settings.Made.the-variants.{Good, Bad}
+use Rattle.plate.specs.Head.{heldIn, clearedHead}
+use Rattle.plate.specs.Settings.{settingsChecks, settingsOf}
 use Rattle.plate.specs.declared.settings.Settings.{Settings}
-use Rattle.plate.proofs.Decided.{settings-bad, after-done}
-use Rattle.table.specs.declared.Tabled.{Tabled}
-use Rattle.table.specs.declared.Tabled.the-variants.{Refused}
-use Rattle.table.specs.Tabled.{toldTable, tallyOf}
-use Rattle.table.specs.Calls.{short, clearAnswer, cleared, clearTable}
-use Rattle.table.proofs.Answers.{stop, clear-short, clear-done}
+use Rattle.plate.proofs.Calls.{judged-bad, judged-good, works}
+use Rattle.table.specs.Table.{short, cleared, clearing}
 use Rattle.table.proofs.clear_table.Statement.{statement}
 use Rattle.table.proofs.clear_table.Tie as tie
 
 module _ (N T : ℕ) (table : List ℕ) where
-  stopped : (r : Tabled) (reason : Reason) (place : ℕ) → r ≡ Refused (record { reason = reason; place = place })
-      → refused (numberOf reason) place ≡ clearAnswer N T table → (toldTable r ≡ clearAnswer N T table) × (table ≡ clearTable N T table)
-  unfolding clearTable
-  stopped r reason place e q = stop (clearAnswer N T table) r reason place (cleared N T table) table e q
+  -- passed: there is room
+  room : none ≡ first (clearing N T table .checks) → cells N T ≤ length table
+  unfolding clearing short
+  room e =
+      let q = first-none (short (heldIn (clearedHead N T) table) 1 ∷ []) .0 (first-later (settingsChecks N T) _ (sym e)) in
+      ltb-false (length table) (cells N T) (q .0)
 
-  bad : (reason : Reason) → toldMade (Bad reason) ≡ decided (settingsChecks N T) (settingsOf N T) → refused (numberOf reason) 0 ≡ clearAnswer N T table
-  unfolding clearAnswer
-  bad reason e = settings-bad N T (short N T table 1 ∷ []) (tallyOf 0) reason e
+  whole : (now : List ℕ) (s : Settings) → s ≡ settingsOf N T → s .cells ≤ length table → Span 0 0 (s .cells) (λ i x. 0) table now
+      → now ≡ clearing N T table .writes
+  unfolding clearing cleared
+  whole now s e l w = let c = ap (λ (s : Settings). s .cells) e in span-is (s .cells) (cells N T) w (omega arith) (omega arith)
 
-  whole : (now : List ℕ) (s : Settings) → Passed (Good s) N T → s .cells ≤ length table → Span 0 0 (s .cells) (λ i x. 0) table now → now ≡ clearTable N T table
-  unfolding clearTable cleared
-  whole now s p room w =
-      let e = ap (λ (s : Settings). s .cells) (p .1) in
-      span-is (s .cells) (cells N T) w (omega arith) (omega arith)
-      ∙ after-done (clearAnswer N T table) (tallyOf 0) (cleared N T table) table (clear-done N T 0 table (p .0) (omega arith))
+module _ (c : tie.After-known-told2) where
+  abbrev s : tie.Start
+  s = c .before .before .before .before .before .before
 
-made : (c : tie.After-known-told2) → Passed (Good (c .before .made2 .given .0 .0)) (c .before .before .before .before .before .args .height) (c .before .before .before .before .before .args .members)
-made c =
-    let s = c .before .before .before .before .before in
-    subst (λ (m : Made). Passed m (s .args .height) (s .args .members)) (c .before .made2 .given .1) (c .before .before .before .new .ensures .1)
+  abbrev j : tie.After-check-room
+  j = c .before .before .before
+
+  passed : none ≡ first (clearing (s .args .height) (s .args .members) (s .args .table .now) .checks)
+  passed = judged-good (clearing (s .args .height) (s .args .members) (s .args .table .now)) (j .check-room .ensures) _ (c .before .made2 .given .1)
+
+  is : c .before .made2 .given .0 .0 ≡ settingsOf (s .args .height) (s .args .members)
+  is = j .check-room .ensures .good _ (c .before .made2 .given .1) .0
+
+  fits : c .before .made2 .given .0 .0 .cells ≤ length (s .args .table .now)
+  fits = let e = ap (λ (s : Settings). s .cells) is in omega (arith, room _ _ _ passed)
 
 returns : tie.Need-returns
+unfolding clearing
 returns c =
-    let p = made (c .before .before) in
-    let e = ap (λ (s : Settings). s .cells) (p .1) in
-    stopped _ _ _ _ _ _ (c .refused2 .ensures) (clear-short _ _ 0 _ (p .0) (omega arith))
+    let s = c .before .before .before .before .before .before in
+    judged-bad (clearing (s .args .height) (s .args .members) (s .args .table .now)) (c .before .before .before .check-room .ensures) _ (c .before .made .given .1)
 
 returns-2 : tie.Need-returns-2
+unfolding clearing
 returns-2 c =
-    stopped _ _ _ _ _ _ (c .refused .ensures)
-    (bad _ _ _ (c .before .before .made .given .0 .0) (ap toldMade (sym (c .before .before .made .given .1)) ∙ c .before .before .before .before .new .ensures .0))
-
-returns-3 : tie.Need-returns-3
-returns-3 c =
     let d = c .before .before .before .before .before in
-    let p = made d in
-    let e = ap (λ (s : Settings). s .cells) (p .1) in
-    (clear-done _ _ 0 _ (p .0) (omega arith), whole _ _ _ _ _ p (omega arith) (c .before .before .clear-cells .ensures))
+    works (clearing (s d .args .height) (s d .args .members) (s d .args .table .now)) _ _ (passed d) (c .cleared .ensures)
+    (whole _ _ _ _ _ (is d) (fits d) (c .before .before .before .clear-cells .ensures))
 
 pub clear-table-spec : {M : Type 1} → statement M
 clear-table-spec =
@@ -69,11 +68,10 @@ clear-table-spec =
     (tie.spec
     (λ c κs. search needs)
     (λ c. search needs)
+    (λ c. search needs)
+    (λ c κs. fits (c .before))
     (λ c κs. search needs)
     (λ c. search needs)
-    (λ c κs. search needs)
     returns
-    (λ c κs. search needs)
-    returns-2
     (λ c. search needs)
-    returns-3)
+    returns-2)

@@ -1,68 +1,52 @@
--- `Cursor::settings` meets its contract: its tests are the checks of a settings record, in their order; 1 and 2 are those of
--- `Settings::new`, placed at the record's first byte. Assumes nothing.
+-- `Cursor::settings` meets its contract: 1 and 2 are those of `Settings::new`, at the record's first byte. Assumes nothing.
 use borrow.Author.Needs.{needs}
-use borrow.Author.Tests.{eq-eqb, ne-eqb}
-use mathlib.Core.Path.{_≡_, sym, ap, _∙_, subst}
-use mathlib.Core.Option.{none}
+use borrow.Author.Tests.{eqb-true}
+use mathlib.Core.Path.{_≡_, sym, ap, _∙_}
+use denote.Ref.{now}
+use mathlib.Core.Option.{none, some}
 use Prim.Native.Nat.{ℕ}
 use native.Mathlib.Omega.{arith}
 use Rattle.lists.specs.Checks.{first}
-use Rattle.plate.specs.Refusal.{decided}
-use Rattle.plate.specs.Settings.{settingsChecks, settingsOf, toldMade, Passed}
+use Rattle.plate.specs.Refusal.{numbered}
+use Rattle.plate.specs.Settings.{settingsChecks, saidMade, Judges}
 use Rattle.plate.specs.declared.settings.Made.{Made}
 use Rattle.plate.specs.declared.settings.Made.the-variants.{Good, Bad}
 use Rattle.plate.specs.declared.settings.Settings.{Settings}
-use Rattle.plate.specs.declared.refusal.Reason.{Reason}
-use Rattle.job.specs.Record.{settings}
-use Rattle.job.proofs.Laws.{not-allowed, wrong-length, past-input, body-refused, body-passed}
+use Rattle.plate.specs.declared.refusal.Refusal.{Refusal}
+use Rattle.record.specs.Frame.{lengthAt}
+use Rattle.job.specs.declared.Kind.the-variants as kind
+use Rattle.job.proofs.Reading.{body-refused, body-passed}
 use Rattle.job.proofs.Bodies.{settings-refused, settings-passed}
 use Rattle.job.proofs.Cursor.settings.Statement.{statement}
 use Rattle.job.proofs.Cursor.settings.Tie as tie
 
+-- what is known where the settings were refused, and where they were made, of the numbers that were read
+module _ (made : Made) (N T N′ T′ : ℕ) (j : Judges made (settingsChecks N T) N T) (n : N ≡ N′) (t : T ≡ T′) where
+  bad : (r : Refusal) → made ≡ Bad r → first (settingsChecks N′ T′) ≡ some (numbered r)
+  bad r e = rw (← n, ← t) (sym (j .says) ∙ ap saidMade e)
+
+  good : (s : Settings) → made ≡ Good s → first (settingsChecks N′ T′) ≡ none
+  good s e = rw (← n, ← t) (sym (j .says) ∙ ap saidMade e)
+
+-- a settings record whose frame passed is ten bytes long
+ten : (c : tie.Start) → lengthAt (now (c .args .input)) (c .args .self .at) ≡ 10
+ten c = eqb-true (lengthAt (now (c .args .input)) (c .args .self .at)) 10 (c .pre .fits)
+
 returns : tie.Need-returns
-returns c = c .faulted .ensures ∙ not-allowed _ _ _ settings (simp (c .before .if1 .taken))
+returns c =
+    let d = c .before .before .before .before in
+    c .faulted .ensures
+    ∙ body-refused _ _ _ kind.Settings _
+    (settings-refused _ _ _ _ (bad _ _ _ _ _ (d .new .ensures) (d .before .before .before .word .ensures) (d .before .before .quad .ensures) (c .before .before .made .given .0 .0) (c .before .before .made .given .1)))
 
 returns-2 : tie.Need-returns-2
 returns-2 c =
-    let p = c .before .before .before .before .before .pre in
-    c .faulted2 .ensures ∙ wrong-length _ _ _ settings (simp (c .before .before .if1 .left)) (ne-eqb _ _ (λ e. c .before .if2 .taken (p .1 ∙ e)))
-
-returns-3 : tie.Need-returns-3
-returns-3 c =
-    let p = c .before .before .before .before .before .before .pre in
-    c .faulted3 .ensures
-    ∙ past-input _ _ _ settings (simp (c .before .before .before .if1 .left)) (eq-eqb _ _ (sym (p .1) ∙ c .before .before .if2 .left)) (omega (arith, p .1))
-
--- what is known where the settings were refused, and where they were made
-unmade : (r : Made) (reason : Reason) (N T N′ T′ : ℕ) → r ≡ Bad reason → toldMade r ≡ decided (settingsChecks N T) (settingsOf N T) → N ≡ N′ → T ≡ T′
-    → toldMade (Bad reason) ≡ decided (settingsChecks N′ T′) (settingsOf N′ T′)
-unmade r reason N T N′ T′ e m n t = rw (← n, ← t) (ap toldMade (sym e) ∙ m)
-
-made : (r : Made) (s : Settings) (N T N′ T′ : ℕ) → r ≡ Good s → Passed r N T → N ≡ N′ → T ≡ T′ → first (settingsChecks N′ T′) ≡ none
-made r s N T N′ T′ e p n t = rw (← n, ← t) (subst (λ (m : Made). Passed m N T) e p .0)
-
-returns-4 : tie.Need-returns-4
-returns-4 c =
-    let d = c .before .before .before .before .before .before .before .before in
-    let p = d .before .before .before .before .before .pre in
-    let w = c .before .before .before .before .before .before .before .word .ensures in
-    let q = c .before .before .before .before .before .before .quad .ensures in
-    c .faulted4 .ensures
-    ∙ body-refused _ _ _ settings
-    (record { allowed = simp (d .before .before .if1 .left); right = eq-eqb _ _ (sym (p .1) ∙ d .before .if2 .left); within = omega (arith, p .1) })
-    _
-    (settings-refused _ _ _ (c .before .before .made .given .0 .0) (unmade _ _ _ _ _ _ (c .before .before .made .given .1) (c .before .before .before .before .new .ensures .0) w q))
-
-returns-5 : tie.Need-returns-5
-returns-5 c =
-    let d = c .before .before .before .before .before .before in
-    let p = d .before .before .before .before .before .pre in
-    let w = c .before .before .before .before .before .word .ensures in
-    let q = c .before .before .before .before .quad .ensures in
-    rw (p .1, w, q, c .before .before .before .quad2 .ensures)
-    (body-passed _ _ _ settings
-    (record { allowed = simp (d .before .before .if1 .left); right = eq-eqb _ _ (sym (p .1) ∙ d .before .if2 .left); within = omega (arith, p .1) })
-    (settings-passed _ _ _ (made _ _ _ _ _ _ (c .enum-told .given .1) (c .before .before .new .ensures .1) w q)))
+    let d = c .before .before .before .before in
+    let w = d .before .before .before .word .ensures in
+    let q = d .before .before .quad .ensures in
+    c .passed .ensures
+    ∙ rw (c .before .begin .ensures, w, q, d .before .quad2 .ensures)
+    (body-passed _ _ _ kind.Settings (settings-passed _ _ _ (good _ _ _ _ _ (d .new .ensures) w q _ (c .before .before .enum-told .given .1))))
 
 pub settings-spec : {M : Type 1} → statement M
 settings-spec =
@@ -70,22 +54,16 @@ settings-spec =
     (tie.spec
     (λ c. search needs)
     (λ c κs. search needs)
+    (λ c. search needs)
+    (λ c. omega (arith, ten (c .before .before .before)))
+    (λ c κs. search needs)
+    (λ c. omega (arith, ten (c .before .before .before .before)))
+    (λ c κs. search needs)
+    (λ c κs. search needs)
+    (λ c. search needs)
+    (λ c κs. search needs)
+    (λ c. search needs)
+    (λ c κs. search needs)
+    (λ c κs. search needs)
     returns
-    (λ c κs. search needs)
-    returns-2
-    (λ c. search needs)
-    (λ c κs. search needs)
-    returns-3
-    (λ c κs. search needs)
-    (λ c. search needs)
-    (λ c. search needs)
-    (λ c κs. search needs)
-    (λ c. search needs)
-    (λ c κs. search needs)
-    (λ c κs. search needs)
-    (λ c. search needs)
-    (λ c κs. search needs)
-    (λ c. search needs)
-    (λ c. search needs)
-    returns-4
-    returns-5)
+    returns-2)

@@ -1,0 +1,3 @@
+pub mod Addends
+pub mod Passed
+pub mod Plates

@@ -1,0 +1,86 @@
+-- What goes with a table: the limits on its columns as inequalities, each one comparison, read either way; and
+-- the settings that it was made for. Assumes nothing.
+use mathlib.Core.Path.{_≡_, ap, subst}
+use mathlib.Core.Option.{none}
+use mathlib.Core.Bool.{true, false}
+use Prim.Native.Nat.{ℕ, _+_, _-_, _≤_, _<_, min}
+use native.Mathlib.Omega.{arith}
+use borrow.Author.Tests.{ltb-true, ltb-false, leb-true, leb-false, lt-ltb, le-ltb, le-leb, lt-leb}
+use Rattle.lists.specs.Checks.{first}
+use Rattle.paper.specs.Limits.{mostColumns}
+use Rattle.plate.specs.Head.{both, less, capped, isOver, isFull, isLess, cellsOf, headChecks, SettingsFor}
+use Rattle.plate.specs.Settings.{Sound}
+use Rattle.plate.specs.declared.head.Head.{Head}
+use Rattle.plate.specs.declared.settings.Settings.{Settings}
+use Rattle.plate.proofs.Sizes.{settings-fine}
+
+module _ (head : Head) where
+  -- columns beyond the most
+  pub not-over : isOver head ≡ false → head .columns ≤ mostColumns
+  unfolding isOver
+  not-over e = ltb-false mostColumns (head .columns) e
+
+  pub few-not-over : head .columns ≤ mostColumns → isOver head ≡ false
+  unfolding isOver
+  few-not-over l = le-ltb mostColumns (head .columns) l
+
+  pub capped-same : isOver head ≡ false → capped head ≡ head
+  capped-same e =
+      let l = not-over e in
+      let m : min (head .columns) mostColumns ≡ head .columns = omega arith in
+      ap (λ (n : ℕ). record { height = head .height; members = head .members; columns = n }) m
+
+  pub capped-not-over : isOver (capped head) ≡ false
+  unfolding isOver
+  capped-not-over = le-ltb mostColumns (min (head .columns) mostColumns) (omega arith)
+
+  -- no room for one more
+  pub not-full : isFull head ≡ false → head .columns < mostColumns
+  unfolding isFull
+  not-full e = leb-false mostColumns (head .columns) e
+
+  pub full-over : isFull head ≡ false → isOver head ≡ false
+  full-over e = few-not-over (let l = not-full e in omega arith)
+
+  pub few-not-full : head .columns < mostColumns → isFull head ≡ false
+  unfolding isFull
+  few-not-full l = lt-leb mostColumns (head .columns) l
+
+  module _ (other : Head) where
+    -- two tables' columns
+    pub not-over-both : isOver (both head other) ≡ false → head .columns + other .columns ≤ mostColumns
+    unfolding isOver
+    not-over-both e = ltb-false mostColumns (head .columns + other .columns) e
+
+    pub few-not-over-both : head .columns + other .columns ≤ mostColumns → isOver (both head other) ≡ false
+    unfolding isOver
+    few-not-over-both l = le-ltb mostColumns (head .columns + other .columns) l
+
+    -- what is left is no more
+    pub less-not-over : isOver head ≡ false → isOver (less head other) ≡ false
+    unfolding isOver
+    less-not-over e = le-ltb mostColumns (head .columns - other .columns) (let l = ltb-false mostColumns (head .columns) e in omega arith)
+
+    -- fewer than the other's
+    pub not-less : isLess head other ≡ false → other .columns ≤ head .columns
+    unfolding isLess
+    not-less e = ltb-false (head .columns) (other .columns) e
+
+    pub more-not-less : other .columns ≤ head .columns → isLess head other ≡ false
+    unfolding isLess
+    more-not-less l = le-ltb (head .columns) (other .columns) l
+
+-- the settings that a table was made for are its head's
+module _ {head : Head} {s : Settings} (k : SettingsFor head s) where
+  pub cells-for : s .cells ≡ cellsOf head
+  cells-for = ap (λ (s : Settings). s .cells) (k .is)
+
+  pub height-for : s .height ≡ head .height
+  height-for = ap (λ (s : Settings). s .height) (k .is)
+
+  pub members-for : s .members ≡ head .members
+  members-for = ap (λ (s : Settings). s .members) (k .is)
+
+  -- and in order
+  pub head-fine : first (headChecks head) ≡ none
+  head-fine = settings-fine (head .height) (head .members) (subst Sound (k .is) (k .sound))

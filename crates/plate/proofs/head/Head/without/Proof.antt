@@ -1,0 +1,17 @@
+-- `Head::without` meets its contract: a smaller count less a greater one is 0. Assumes nothing.
+use mathlib.Core.Path.{_≡_, ap, _∙_}
+use Prim.Native.Nat.{ℕ, _-_}
+use native.Mathlib.Omega.{arith}
+use borrow.Author.Needs.{needs}
+use Rattle.plate.specs.declared.head.Head.{Head}
+use Rattle.plate.proofs.head.Head.without.Statement.{statement}
+use Rattle.plate.proofs.head.Head.without.Tie as tie
+
+returns : tie.Need-returns
+returns c =
+    let s = c .before .before .before .before in
+    let e : _≡_ {A = ℕ} 0 (s .args .self .columns - s .args .other .columns) = omega arith in
+    c .cleared .ensures ∙ ap (λ (n : ℕ). record { height = s .args .self .height; members = s .args .self .members; columns = n }) e
+
+pub without-spec : {M : Type 1} → statement M
+without-spec = tie.close (tie.spec (λ c κs. search needs) returns (λ c. search needs))

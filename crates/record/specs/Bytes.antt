@@ -1,0 +1,17 @@
+-- Little-endian numbers in a list of bytes; a byte past its end is 0. Assumes nothing.
+use Prim.Native.Nat.{ℕ, zero, suc, _+_, _*_}
+use mathlib.Core.List.{List, [], _∷_, _++_}
+use lib.ListN.{getD}
+
+-- the two bytes from a place on, as a number, the lower byte first
+unfoldable pub le16 : List ℕ → ℕ → ℕ
+le16 s at = getD s at 0 + 256 * getD s (at + 1) 0
+
+-- the four bytes from a place on, as a number, the lowest byte first
+unfoldable pub le32 : List ℕ → ℕ → ℕ
+le32 s at = le16 s at + 65536 * le16 s (at + 2)
+
+-- n numbers of two bytes each, from a place on
+unfoldable pub words : List ℕ → ℕ → ℕ → List ℕ
+words s start zero = []
+words s start (suc n) = words s start n ++ (le16 s (start + 2 * n) ∷ [])

@@ -1,0 +1,45 @@
+-- Document 01, 'In a record: fewer than 4 bytes left; kind not allowed here; wrong length for the kind; body past the input (all 16)', and the
+-- two other ways in which a file is malformed: a name for each, and its number. Assumes nothing.
+use Prim.Native.Nat.{ℕ, _≤_}
+use mathlib.Core.Path.{_≡_}
+use mathlib.Core.Bool.{Bool, true, not}
+use mathlib.Core.List.{List, [], _∷_}
+use lib.Dec.{ltb, eqb}
+use lib.ListN.{length}
+use Rattle.lists.specs.Checks.{Check}
+use Rattle.plate.specs.Refusal.{Numbered, check}
+use Rattle.record.specs.Frame.{left, lengthAt, bodyAt, pastAt}
+
+-- fewer than 4 bytes left
+abbrev pub cut : List ℕ → ℕ → Check Numbered
+cut s at = check 16 (ltb (left s at) 4) at
+
+-- kind not allowed here
+abbrev pub kindHere : Bool → ℕ → Check Numbered
+kindHere allowed at = check 16 (not allowed) at
+
+-- wrong length for the kind
+abbrev pub wrongLength : Bool → ℕ → Check Numbered
+wrongLength right at = check 16 (not right) at
+
+-- body past the input
+abbrev pub bodyCut : List ℕ → ℕ → Check Numbered
+bodyCut s at = check 16 (ltb (left s (bodyAt at)) (lengthAt s at)) at
+
+-- a number that the record at a place gives, and what the file has
+abbrev pub unequal : ℕ → ℕ → ℕ → Check Numbered
+unequal given counted at = check 16 (not (eqb given counted)) at
+
+-- bytes after the end, at the first of them
+abbrev pub tail : List ℕ → ℕ → Check Numbered
+tail s end = check 16 (ltb end (length s)) end
+
+-- what is asked of the record at a place before its body is looked at
+unfoldable pub frameChecks : List ℕ → ℕ → Bool → Bool → List (Check Numbered)
+frameChecks s at allowed right = cut s at ∷ kindHere allowed at ∷ wrongLength right at ∷ bodyCut s at ∷ []
+
+-- a record whose frame passes: its kind is allowed, its length is right, and it ends in the input
+pub record Framed (s : List ℕ) (at : ℕ) (allowed right : Bool) : Type 0 where
+  pub allows : allowed ≡ true
+  pub fits : right ≡ true
+  pub within : pastAt s at ≤ length s

@@ -1,0 +1,4 @@
+pub mod Bytes
+pub mod Frame
+pub mod Faults
+pub mod Places

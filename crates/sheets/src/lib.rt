@@ -1,0 +1,87 @@
+// What planning, reading back and recounting share: whether a layer has the shape of one, where an entry of a sheet stands, the entry that
+// stands for none, and the least of some entries.
+ghost use mathlib.Core.Path.{_≡_};
+ghost use Prim.Native.Nat.{_<_};
+ghost use lib.ListN.{getD};
+ghost use Rattle.paper.specs.Sheets.{entryIndex, missing};
+ghost use Rattle.sheets.specs.Layers.{isLayer};
+ghost use Rattle.sheets.specs.Entries.{leastFrom, leastEnd};
+ghost use Rattle.sheets.specs.Least.{IsLeast};
+use plate::settings::Settings;
+use plate::settings::is_allowed;
+
+// The entry that stands for none.
+pub const NONE: u64 = 18446744073709551615;
+
+// The least of some entries, and the lowest place among them that has it; NONE, at 0, where there is none.
+pub struct Least {
+    pub error: u64,
+    pub place: usize,
+}
+
+// Where the entry of a row and a count m stands in a sheet of counts up to `most`.
+pub fn entry_index(most: u32, row: u32, m: u32) -> usize
+    ensures { λ r. ⌜ r ≡ entryIndex most row m ⌝ }
+{
+    row as usize * (most as usize + 1) + m as usize
+}
+
+// Whether a layer from row `start` of thickness t has the shape of one.
+pub fn is_layer(s: Settings, start: usize, t: usize) -> bool
+    ensures { λ r. ⌜ r ≡ isLayer s start t ⌝ }
+{
+    if !is_allowed(s.members, t) {
+        return false;
+    }
+    if s.rows < t {
+        return false;
+    }
+    start <= s.rows - t
+}
+
+// The entry at a place, and NONE past the sheet's end.
+fn entry_at(errors: &[u64], at: usize) -> u64
+    ensures { λ r. ⌜ r ≡ getD (now (errors .entry)) at missing ⌝ }
+{
+    if errors.len() <= at {
+        return NONE;
+    }
+    errors[at]
+}
+
+// The least of the `many` entries at `from`, `from` + `apart` and so on.
+fn least_entry(errors: &[u64], from: usize, apart: u32, many: u16) -> Least
+    requires { ⌜ from < 8589934592 ⌝ }
+    ensures { λ r. ⌜ IsLeast r (leastFrom (now (errors .entry)) from apart many) ⌝ }
+{
+    let mut error = NONE;
+    let mut place = 0;
+    let mut at = from;
+    let mut k = 0;
+    while k < many as usize {
+        let e = entry_at(errors, at);
+        let here = k;
+        at += apart as usize;
+        k += 1;
+        if e < error {
+            error = e;
+            place = here;
+        }
+    }
+    Least { error, place }
+}
+
+// The least entry of the count n at the end heights, in a sheet of counts up to `most`.
+pub fn least_end(errors: &[u64], height: u16, tmax: u16, most: u16, n: u16) -> Least
+    ensures { λ r. ⌜ IsLeast r (leastEnd (now (errors .entry)) height tmax most n) ⌝ }
+{
+    if tmax == 0 {
+        return Least {
+            error: NONE,
+            place: 0,
+        };
+    }
+    let row = height as u32 + tmax as u32 - 1;
+    let from = entry_index(most as u32, row, n as u32);
+    least_entry(errors, from, most as u32 + 1, tmax)
+}
