@@ -1,45 +1,40 @@
-// The calls of document 01, each by a line of the list: first how much of each buffer is lent, in the order in which they are shown, then
-// numbers of the call's own, last what goes with a table. The library's call stands in a function of its own, which promises nothing, so that
-// what the library promises is carried no further.
+// The calls of document 01, each by the numbers of a line: how much of each buffer is lent, then numbers of the call's own, last what goes with
+// a table. A buffer that does not stay from line to line is laid by the numbers after the line's semicolon, and shown after the answer, as much
+// of it as the line says.
 use crate::line::in32;
 use crate::line::signed;
 use crate::memory::front_heights;
 use crate::memory::front8;
 use crate::memory::front32;
 use crate::memory::front64;
+use crate::memory::lay_heights;
+use crate::memory::lay16;
+use crate::memory::lay32;
+use crate::memory::lay64;
 use crate::memory::part_heights;
 use crate::memory::part8;
 use crate::memory::part16;
 use crate::memory::part32;
 use crate::memory::part64;
 use crate::memory::show_heights;
-use crate::memory::show8;
 use crate::memory::show16;
 use crate::memory::show32;
 use crate::memory::show64;
 use crate::show;
 use column::Pictured;
 use motor::Lifted;
+use plate::head::Head;
+use plate::head::Tabled;
 use plate::refusal::Answer;
-use table::Tabled;
-use table::Tally;
-
-// What goes with a table.
-struct Head {
-    height: u32,
-    members: u32,
-    tally: Tally,
-}
+use plate::settings::Made;
 
 // By a line's numbers from such a one on.
-fn head_at(given: [u64; 128], at: usize) -> Head {
-    let at = at % 100;
+fn head_at(given: [u64; 12], at: usize) -> Head {
+    let at = at % 10;
     Head {
         height: in32(given[at]),
         members: in32(given[at + 1]),
-        tally: Tally {
-            columns: in32(given[at + 2]),
-        },
+        columns: in32(given[at + 2]),
     }
 }
 
@@ -50,167 +45,164 @@ fn answered(answer: Answer) {
     }
 }
 
+// What goes with the table then, whole.
 fn tabled(answer: Tabled) {
     match answer {
         Tabled::Refused(refusal) => show::refused(refusal),
-        Tabled::Done(tally) => show::done(tally.columns as u64),
+        Tabled::Done(head) => {
+            show::done(head.height as u64);
+            show::next32(head.members);
+            show::next32(head.columns);
+        }
     }
-}
-
-fn cleared(given: [u64; 128], table: &mut [u32]) -> Tabled {
-    table::clear_table(front32(table, given[0]), in32(given[1]), in32(given[2]))
 }
 
 pub(crate) fn clear(line: &[u8], table: &mut [u32]) {
     let given = show::label(line);
-    tabled(cleared(given, table));
-    show32(b"table", table, given[0]);
+    tabled(table::clear_table(front32(table, given[0]), in32(given[1]), in32(given[2])));
     show::end();
 }
 
-fn added(given: [u64; 128], table: &mut [u32], column: &[u16]) -> Tabled {
-    let head = head_at(given, 2);
-    table::add_column(
+fn added(given: [u64; 12], table: &mut [u32], column: &[u16]) -> Tabled {
+    adding::add_column(
         front32(table, given[0]),
-        head.height,
-        head.members,
-        head.tally,
+        head_at(given, 3),
         part16(column, given[1]),
     )
 }
 
-pub(crate) fn add(line: &[u8], table: &mut [u32], column: &[u16]) {
+pub(crate) fn add(line: &[u8], table: &mut [u32]) {
+    let mut column = [0u16; 100];
+    lay16(&mut column, line, b';');
     let given = show::label(line);
-    tabled(added(given, table, column));
-    show32(b"table", table, given[0]);
-    show16(b"column", column, given[1]);
+    tabled(added(given, table, &column));
+    show::text(b"; column");
+    show16(&column, given[2]);
     show::end();
 }
 
-fn show_two(given: [u64; 128], table: &[u32], other: &[u32]) {
-    show32(b"table", table, given[0]);
-    show32(b"other", other, given[1]);
+fn joined(given: [u64; 12], table: &mut [u32], other: &[u32]) -> Tabled {
+    joining::join_tables(
+        front32(table, given[0]),
+        head_at(given, 3),
+        part32(other, given[1]),
+        head_at(given, 6),
+    )
+}
+
+fn taken(given: [u64; 12], table: &mut [u32], other: &[u32]) -> Tabled {
+    joining::take_off(
+        front32(table, given[0]),
+        head_at(given, 3),
+        part32(other, given[1]),
+        head_at(given, 6),
+    )
+}
+
+fn show_other(other: &[u32], asked: u64) {
+    show::text(b"; other");
+    show32(other, asked);
     show::end();
 }
 
-fn joined(given: [u64; 128], table: &mut [u32], other: &[u32]) -> Tabled {
-    let head = head_at(given, 2);
-    let second = head_at(given, 5);
-    table::join_tables(
-        front32(table, given[0]),
-        head.height,
-        head.members,
-        head.tally,
-        part32(other, given[1]),
-        second.height,
-        second.members,
-        second.tally,
-    )
-}
-
-pub(crate) fn join(line: &[u8], table: &mut [u32], other: &[u32]) {
+pub(crate) fn join(line: &[u8], table: &mut [u32]) {
+    let mut other = [0u32; 18400];
+    lay32(&mut other, line, b';');
     let given = show::label(line);
-    tabled(joined(given, table, other));
-    show_two(given, table, other);
+    tabled(joined(given, table, &other));
+    show_other(&other, given[2]);
 }
 
-fn taken(given: [u64; 128], table: &mut [u32], other: &[u32]) -> Tabled {
-    let head = head_at(given, 2);
-    let second = head_at(given, 5);
-    table::take_off(
-        front32(table, given[0]),
-        head.height,
-        head.members,
-        head.tally,
-        part32(other, given[1]),
-        second.height,
-        second.members,
-        second.tally,
-    )
-}
-
-pub(crate) fn take(line: &[u8], table: &mut [u32], other: &[u32]) {
+pub(crate) fn take(line: &[u8], table: &mut [u32]) {
+    let mut other = [0u32; 18400];
+    lay32(&mut other, line, b';');
     let given = show::label(line);
-    tabled(taken(given, table, other));
-    show_two(given, table, other);
+    tabled(taken(given, table, &other));
+    show_other(&other, given[2]);
 }
 
-fn show_sheets(given: [u64; 128], errors: &[u64], thicknesses: &[u8]) {
-    show64(b"errors", errors, given[0]);
-    show8(b"thicknesses", thicknesses, given[1]);
+// What a table that is in order is made for: its cells, M, and the entries of a sheet.
+fn checked(made: Made) {
+    match made {
+        Made::Bad(refusal) => show::refused(refusal),
+        Made::Good(settings) => {
+            show::done(settings.cells as u64);
+            show::next(settings.counts as u64);
+            show::next(settings.entries as u64);
+        }
+    }
+}
+
+pub(crate) fn check(line: &[u8], table: &[u32]) {
+    let given = show::label(line);
+    checked(table::check_table(part32(table, given[0]), head_at(given, 1)));
+    show::end();
 }
 
 fn planned(
-    given: [u64; 128],
+    given: [u64; 12],
     table: &[u32],
     errors: &mut [u64],
     thicknesses: &mut [u8],
     leasts: &mut [u64],
 ) -> Answer {
-    let head = head_at(given, 5);
     plan::plan(
-        part32(table, given[3]),
-        head.height,
-        head.members,
-        head.tally,
-        in32(given[4]),
-        front64(errors, given[0]),
-        front8(thicknesses, given[1]),
-        front64(leasts, given[2]),
+        part32(table, given[0]),
+        head_at(given, 6),
+        in32(given[5]),
+        front64(errors, given[1]),
+        front8(thicknesses, given[2]),
+        front64(leasts, given[3]),
     )
 }
 
-pub(crate) fn plan(
-    line: &[u8],
-    table: &[u32],
-    errors: &mut [u64],
-    thicknesses: &mut [u8],
-    leasts: &mut [u64],
-) {
+pub(crate) fn plan(line: &[u8], table: &[u32], errors: &mut [u64], thicknesses: &mut [u8]) {
+    let mut leasts = [0u64; 600];
+    lay64(&mut leasts, line, b';');
     let given = show::label(line);
-    answered(planned(given, table, errors, thicknesses, leasts));
-    show_sheets(given, errors, thicknesses);
-    show64(b"list", leasts, given[2]);
-    show32(b"table", table, given[3]);
+    answered(planned(given, table, errors, thicknesses, &mut leasts));
+    show::text(b"; list");
+    show64(&leasts, given[4]);
     show::end();
 }
 
-fn read(given: [u64; 128], errors: &[u64], thicknesses: &[u8], out: &mut [i32]) -> Answer {
-    plan::read_back(
-        in32(given[4]),
+fn read(given: [u64; 12], errors: &[u64], thicknesses: &[u8], out: &mut [i32]) -> Answer {
+    readback::read_back(
         in32(given[5]),
+        in32(given[6]),
         part64(errors, given[0]),
         part8(thicknesses, given[1]),
-        in32(given[3]),
+        in32(given[4]),
         front_heights(out, given[2]),
     )
 }
 
-pub(crate) fn read_back(line: &[u8], errors: &[u64], thicknesses: &[u8], out: &mut [i32]) {
+pub(crate) fn read_back(line: &[u8], errors: &[u64], thicknesses: &[u8]) {
+    let mut out = [0i32; 600];
+    lay_heights(&mut out, line, b';');
     let given = show::label(line);
-    answered(read(given, errors, thicknesses, out));
-    show_sheets(given, errors, thicknesses);
-    show_heights(b"sequence", out, given[2]);
+    answered(read(given, errors, thicknesses, &mut out));
+    show::text(b"; sequence");
+    show_heights(&out, given[3]);
     show::end();
 }
 
-fn recounted(given: [u64; 128], table: &[u32], sequence: &[i32]) -> Answer {
-    let head = head_at(given, 3);
+fn recounted(given: [u64; 12], table: &[u32], sequence: &[i32]) -> Answer {
     recount::recount(
         part32(table, given[0]),
-        head.height,
-        head.members,
-        head.tally,
-        in32(given[2]),
+        head_at(given, 4),
+        in32(given[3]),
         part_heights(sequence, given[1]),
     )
 }
 
-pub(crate) fn recount(line: &[u8], table: &[u32], sequence: &[i32]) {
+pub(crate) fn recount(line: &[u8], table: &[u32]) {
+    let mut sequence = [0i32; 600];
+    lay_heights(&mut sequence, line, b';');
     let given = show::label(line);
-    answered(recounted(given, table, sequence));
-    show32(b"table", table, given[0]);
-    show_heights(b"sequence", sequence, given[1]);
+    answered(recounted(given, table, &sequence));
+    show::text(b"; sequence");
+    show_heights(&sequence, given[2]);
     show::end();
 }
 
@@ -223,23 +215,26 @@ fn show_picture(filled: bool, share: u32) {
     show::next32(share);
 }
 
-fn pictured(given: [u64; 128], column: &[u16]) {
+fn pictured(given: [u64; 12], column: &[u16]) {
     match column::picture(
         part16(column, given[0]),
-        in32(given[3]),
         in32(given[4]),
-        signed(given[1]),
-        in32(given[2]),
+        in32(given[5]),
+        signed(given[2]),
+        in32(given[3]),
     ) {
         Pictured::Refused(refusal) => show::refused(refusal),
         Pictured::Done(judged) => show_picture(judged.filled, judged.share),
     }
 }
 
-pub(crate) fn picture(line: &[u8], column: &[u16]) {
+pub(crate) fn picture(line: &[u8]) {
+    let mut column = [0u16; 100];
+    lay16(&mut column, line, b';');
     let given = show::label(line);
-    pictured(given, column);
-    show16(b"column", column, given[0]);
+    pictured(given, &column);
+    show::text(b"; column");
+    show16(&column, given[1]);
     show::end();
 }
 
@@ -249,7 +244,7 @@ fn show_bits(height: u32) {
 }
 
 // The f32 by its bits.
-fn lifted(given: [u64; 128]) {
+fn lifted(given: [u64; 12]) {
     match motor::motor_height(in32(given[0]), signed(given[1])) {
         Lifted::Refused(refusal) => show::refused(refusal),
         Lifted::Done(height) => show_bits(f32::to_bits(height)),

@@ -1,4 +1,4 @@
-// A line of the list: a label, a colon, and numbers with a comma between them. Words among the numbers are for the reader.
+// A line of the list, and the numbers in it. Words among the numbers are for the reader.
 ghost use Prim.Native.Nat.{_≤_};
 ghost use lib.ListN.{length};
 
@@ -54,54 +54,76 @@ fn tenfold(number: u64, digit: u64) -> u64 {
     number * 10 + digit % 10
 }
 
-// A number with one character more: a minus begins a number below 0, which is held as so much less than the greatest; a digit; and no other
-// character changes anything.
-fn longer(number: u64, character: u8) -> u64 {
-    if character == b'-' {
-        return GREATEST;
-    }
-    if character < b'0' {
-        return number;
-    }
-    if b'9' < character {
-        return number;
-    }
-    let digit = (character - b'0') as u64;
-    if number < BELOW {
-        return tenfold(number, digit);
-    }
-    GREATEST - tenfold(GREATEST - number, digit)
+// A number that is being read: whether it has a digit, whether it is over, and where the next one may begin. One below 0 is held as so much
+// less than the greatest.
+pub struct Number {
+    pub value: u64,
+    pub begun: bool,
+    pub over: bool,
+    pub after: usize,
 }
 
-// The numbers of a line, and which of them the next character belongs to.
-pub struct Numbers {
-    pub held: [u64; 128],
-    pub last: usize,
-}
-
-impl Numbers {
-    fn with(mut self, character: u8) -> Self {
-        let k = self.last;
-        if k < 128 {
-            self.held[k] = longer(self.held[k], character);
-            if character == b',' {
-                self.last = k + 1;
-            }
+impl Number {
+    fn with_digit(mut self, digit: u64) -> Self {
+        if self.value < BELOW {
+            self.value = tenfold(self.value, digit);
+        } else {
+            self.value = GREATEST - tenfold(GREATEST - self.value, digit);
         }
+        self.begun = true;
         self
     }
+
+    // A minus begins a number, a digit goes on with it, any other character ends it; and a semicolon ends the search for it.
+    fn with(mut self, character: u8) -> Self {
+        match character {
+            48..=57 => self.with_digit((character - 48) as u64),
+            45 => {
+                self.value = GREATEST;
+                self
+            }
+            59 => {
+                self.over = true;
+                self
+            }
+            _ => {
+                self.over = self.begun;
+                self
+            }
+        }
+    }
 }
 
-// The first 128 numbers after the colon; 0 for each that is not there.
-pub(crate) fn numbers_in(line: &[u8]) -> Numbers {
-    let mut numbers = Numbers {
-        held: [0; 128],
-        last: 0,
+// The first number from a place on, up to the next semicolon.
+pub(crate) fn number_from(line: &[u8], at: usize) -> Number {
+    let mut number = Number {
+        value: 0,
+        begun: false,
+        over: false,
+        after: at,
     };
-    let mut i = find(line, 0, b':');
+    let mut i = at;
     while i < line.len() {
-        numbers = numbers.with(line[i]);
+        number = number.with(line[i]);
+        number.after = i;
+        if number.over {
+            return number;
+        }
         i += 1;
+    }
+    number
+}
+
+// The first twelve numbers after the colon; 0 for each that is not there.
+pub(crate) fn numbers_in(line: &[u8]) -> [u64; 12] {
+    let mut numbers = [0u64; 12];
+    let mut at = find(line, 0, b':');
+    let mut k = 0;
+    while k < 12 {
+        let number = number_from(line, at);
+        numbers[k] = number.value;
+        at = number.after;
+        k += 1;
     }
     numbers
 }

@@ -1,57 +1,26 @@
-// The list, line by line. A line that begins with a buffer's name lays numbers into that buffer: from which index and to which, a base of
-// marks, and numbers, as many as there are; the marks fill the rest. One that begins with a call's name makes that call. One that begins with
-// a number sign is a heading.
+// The list, line by line. A line that begins with a buffer's name lays numbers into it, one that begins with `show` shows some of it, one that
+// begins with a call's name makes that call, and one that begins with a number sign is a heading.
 use crate::calls;
 use crate::line::begins;
 use crate::line::find;
-use crate::line::numbers_in;
 use crate::line::part;
-use crate::memory::lay_heights;
 use crate::memory::lay8;
-use crate::memory::lay16;
 use crate::memory::lay32;
 use crate::memory::lay64;
+use crate::memory::show8;
+use crate::memory::show32;
+use crate::memory::show64;
 use crate::show;
 
-fn heading(line: &[u8]) {
+// A heading, and the calls that are lent neither table nor sheet.
+fn alone(line: &[u8]) {
     if begins(line, b"#") {
         show::text(line);
         show::end();
-    }
-}
-
-// A line on tables, columns and boundaries.
-fn tables(line: &[u8], table: &mut [u32], other: &mut [u32], column: &mut [u16]) {
-    if begins(line, b"table") {
-        lay32(table, numbers_in(line));
-        return;
-    }
-    if begins(line, b"other") {
-        lay32(other, numbers_in(line));
-        return;
-    }
-    if begins(line, b"column") {
-        lay16(column, numbers_in(line));
-        return;
-    }
-    if begins(line, b"clear") {
-        calls::clear(line, table);
-        return;
-    }
-    if begins(line, b"add") {
-        calls::add(line, table, column);
-        return;
-    }
-    if begins(line, b"join") {
-        calls::join(line, table, other);
-        return;
-    }
-    if begins(line, b"take off") {
-        calls::take(line, table, other);
         return;
     }
     if begins(line, b"picture") {
-        calls::picture(line, column);
+        calls::picture(line);
         return;
     }
     if begins(line, b"motor") {
@@ -59,82 +28,89 @@ fn tables(line: &[u8], table: &mut [u32], other: &mut [u32], column: &mut [u16])
     }
 }
 
-// A line on sheets and sequences.
-fn sheets(
-    line: &[u8],
-    table: &[u32],
-    errors: &mut [u64],
-    thicknesses: &mut [u8],
-    leasts: &mut [u64],
-    sequence: &mut [i32],
-) {
-    if begins(line, b"errors") {
-        lay64(errors, numbers_in(line));
+fn on_table(line: &[u8], table: &mut [u32]) {
+    if begins(line, b"table") {
+        lay32(table, line, b':');
         return;
     }
-    if begins(line, b"thicknesses") {
-        lay8(thicknesses, numbers_in(line));
+    if begins(line, b"show table") {
+        let given = show::label(line);
+        show32(table, given[0]);
+        show::end();
         return;
     }
-    if begins(line, b"list") {
-        lay64(leasts, numbers_in(line));
+    if begins(line, b"clear") {
+        calls::clear(line, table);
         return;
     }
-    if begins(line, b"sequence") {
-        lay_heights(sequence, numbers_in(line));
+    if begins(line, b"add") {
+        calls::add(line, table);
         return;
     }
-    if begins(line, b"plan") {
-        calls::plan(line, table, errors, thicknesses, leasts);
+    if begins(line, b"join") {
+        calls::join(line, table);
         return;
     }
-    if begins(line, b"read back") {
-        calls::read_back(line, errors, thicknesses, sequence);
+    if begins(line, b"take off") {
+        calls::take(line, table);
+        return;
+    }
+    if begins(line, b"check") {
+        calls::check(line, table);
         return;
     }
     if begins(line, b"recount") {
-        calls::recount(line, table, sequence);
+        calls::recount(line, table);
     }
 }
 
-fn one(
-    line: &[u8],
-    table: &mut [u32],
-    other: &mut [u32],
-    column: &mut [u16],
-    errors: &mut [u64],
-    thicknesses: &mut [u8],
-    leasts: &mut [u64],
-    sequence: &mut [i32],
-) {
-    heading(line);
-    tables(line, table, other, column);
-    sheets(line, table, errors, thicknesses, leasts, sequence);
+fn on_errors(line: &[u8], errors: &mut [u64]) {
+    if begins(line, b"errors") {
+        lay64(errors, line, b':');
+        return;
+    }
+    if begins(line, b"show errors") {
+        let given = show::label(line);
+        show64(errors, given[0]);
+        show::end();
+    }
 }
 
-pub(crate) fn run(
-    list: &[u8],
-    table: &mut [u32],
-    other: &mut [u32],
-    column: &mut [u16],
-    errors: &mut [u64],
-    thicknesses: &mut [u8],
-    leasts: &mut [u64],
-    sequence: &mut [i32],
-) {
+fn on_thicknesses(line: &[u8], thicknesses: &mut [u8]) {
+    if begins(line, b"thicknesses") {
+        lay8(thicknesses, line, b':');
+        return;
+    }
+    if begins(line, b"show thicknesses") {
+        let given = show::label(line);
+        show8(thicknesses, given[0]);
+        show::end();
+    }
+}
+
+fn on_sheets(line: &[u8], table: &[u32], errors: &mut [u64], thicknesses: &mut [u8]) {
+    if begins(line, b"plan") {
+        calls::plan(line, table, errors, thicknesses);
+        return;
+    }
+    if begins(line, b"read back") {
+        calls::read_back(line, errors, thicknesses);
+    }
+}
+
+fn one(line: &[u8], table: &mut [u32], errors: &mut [u64], thicknesses: &mut [u8]) {
+    alone(line);
+    on_table(line, table);
+    on_errors(line, errors);
+    on_thicknesses(line, thicknesses);
+    on_sheets(line, table, errors, thicknesses);
+}
+
+pub(crate) fn run(list: &[u8], table: &mut [u32], errors: &mut [u64], thicknesses: &mut [u8]) {
     let mut start = 0;
     while start < list.len() {
         let end = find(list, start, b'\n');
-        one(
-            part(list, start, end),
-            table,
-            other,
-            column,
-            errors,
-            thicknesses,
-            leasts,
-            sequence,
-        );
+        one(part(list, start, end), table, errors, thicknesses);
         start = end + 1;
     }
 }

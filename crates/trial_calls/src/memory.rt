@@ -1,15 +1,13 @@
-// The buffers that calls are lent, in each width: how much of one is lent, what is laid into one, and what of one is shown. What is shown
-// goes past the part that was lent, so that what a call wrote there would be seen.
+// Buffers of each width: the part of one that is lent, what is laid into one, and what of one is shown.
 ghost use Prim.Native.Nat.{_≤_};
-use crate::line::Numbers;
+use crate::line::Number;
+use crate::line::find;
 use crate::line::in8;
 use crate::line::in16;
 use crate::line::in32;
+use crate::line::number_from;
 use crate::line::signed;
 use crate::show;
-
-// How much is shown past the part that was lent.
-const PAST: u64 = 6;
 
 // Up to so many elements are shown one by one, more by a digest.
 const FEW: usize = 100;
@@ -20,16 +18,6 @@ fn length(asked: u64, all: usize) -> usize
 {
     if asked < all as u64 {
         return asked as usize;
-    }
-    all
-}
-
-// How much of a buffer is shown.
-fn extent(lent: u64, all: usize) -> usize
-    ensures { λ r. ⌜ r ≤ all ⌝ }
-{
-    if lent < 1000000 {
-        return length(lent + PAST, all);
     }
     all
 }
@@ -107,101 +95,116 @@ pub(crate) fn part_heights(buffer: &[i32], lent: u64) -> &[i32] {
     buffer
 }
 
-impl Numbers {
-    // What is laid at an index, the first number being that of the first index: the fourth number and on, as many as there are, and then
-    // marks, which differ from one index to the next.
-    fn laid(self, i: usize) -> u64 {
-        let from = self.held[0] as usize;
-        if from <= i {
-            let k = i - from;
-            if k < 125 {
-                if k + 3 <= self.last {
-                    return self.held[k + 3];
-                }
-            }
-        }
-        self.held[2] % 128 + i as u64 % 96
+// What is laid into a buffer: from which index and to which, and a base of marks, which stand where there are no more numbers.
+struct Laying {
+    from: u64,
+    to: u64,
+    base: u64,
+    at: usize,
+}
+
+// By the numbers that follow a character of the line.
+fn laying(line: &[u8], character: u8) -> Laying {
+    let from = number_from(line, find(line, 0, character) + 1);
+    let to = number_from(line, from.after);
+    let base = number_from(line, to.after);
+    Laying {
+        from: from.value,
+        to: to.value,
+        base: base.value,
+        at: base.after,
     }
 }
 
-pub(crate) fn lay8(buffer: &mut [u8], numbers: Numbers) {
-    let to = length(numbers.held[1], buffer.len());
-    let mut i = numbers.held[0] as usize;
+// What is laid at an index: the next number, or else a mark, which differs from one index to the next.
+fn laid(line: &[u8], at: usize, base: u64, i: usize) -> Number {
+    let mut number = number_from(line, at);
+    if !number.begun {
+        number.value = base % 128 + i as u64 % 96;
+    }
+    number
+}
+
+pub(crate) fn lay8(buffer: &mut [u8], line: &[u8], character: u8) {
+    let laying = laying(line, character);
+    let to = length(laying.to, buffer.len());
+    let mut i = laying.from as usize;
+    let mut at = laying.at;
     while i < to {
-        buffer[i] = in8(numbers.laid(i));
+        let next = laid(line, at, laying.base, i);
+        buffer[i] = in8(next.value);
+        at = next.after;
         i += 1;
     }
 }
 
-pub(crate) fn lay16(buffer: &mut [u16], numbers: Numbers) {
-    let to = length(numbers.held[1], buffer.len());
-    let mut i = numbers.held[0] as usize;
+pub(crate) fn lay16(buffer: &mut [u16], line: &[u8], character: u8) {
+    let laying = laying(line, character);
+    let to = length(laying.to, buffer.len());
+    let mut i = laying.from as usize;
+    let mut at = laying.at;
     while i < to {
-        buffer[i] = in16(numbers.laid(i));
+        let next = laid(line, at, laying.base, i);
+        buffer[i] = in16(next.value);
+        at = next.after;
         i += 1;
     }
 }
 
-pub(crate) fn lay32(buffer: &mut [u32], numbers: Numbers) {
-    let to = length(numbers.held[1], buffer.len());
-    let mut i = numbers.held[0] as usize;
+pub(crate) fn lay32(buffer: &mut [u32], line: &[u8], character: u8) {
+    let laying = laying(line, character);
+    let to = length(laying.to, buffer.len());
+    let mut i = laying.from as usize;
+    let mut at = laying.at;
     while i < to {
-        buffer[i] = in32(numbers.laid(i));
+        let next = laid(line, at, laying.base, i);
+        buffer[i] = in32(next.value);
+        at = next.after;
         i += 1;
     }
 }
 
-pub(crate) fn lay64(buffer: &mut [u64], numbers: Numbers) {
-    let to = length(numbers.held[1], buffer.len());
-    let mut i = numbers.held[0] as usize;
+pub(crate) fn lay64(buffer: &mut [u64], line: &[u8], character: u8) {
+    let laying = laying(line, character);
+    let to = length(laying.to, buffer.len());
+    let mut i = laying.from as usize;
+    let mut at = laying.at;
     while i < to {
-        buffer[i] = numbers.laid(i);
+        let next = laid(line, at, laying.base, i);
+        buffer[i] = next.value;
+        at = next.after;
         i += 1;
     }
 }
 
-pub(crate) fn lay_heights(buffer: &mut [i32], numbers: Numbers) {
-    let to = length(numbers.held[1], buffer.len());
-    let mut i = numbers.held[0] as usize;
+pub(crate) fn lay_heights(buffer: &mut [i32], line: &[u8], character: u8) {
+    let laying = laying(line, character);
+    let to = length(laying.to, buffer.len());
+    let mut i = laying.from as usize;
+    let mut at = laying.at;
     while i < to {
-        buffer[i] = signed(numbers.laid(i));
+        let next = laid(line, at, laying.base, i);
+        buffer[i] = signed(next.value);
+        at = next.after;
         i += 1;
     }
 }
 
-// What is shown of a buffer so far.
-struct Shown {
-    few: bool,
-    digest: u64,
+// What is shown with one element more: the element itself where they are few, a digest of all else.
+fn shown(few: bool, digest: u64, x: u64) -> u64 {
+    if few {
+        show::element(x);
+        return digest;
+    }
+    (digest % 4294967291 * 1000003 + x % 4294967291 + 1) % 4294967291
 }
 
-impl Shown {
-    fn new(name: &[u8], size: usize) -> Self {
-        show::text(b"; ");
-        show::text(name);
-        Shown {
-            few: size <= FEW,
-            digest: 0,
-        }
+fn show_digest(few: bool, digest: u64) {
+    if few {
+        return;
     }
-
-    // One element more.
-    fn with(mut self, x: u64) -> Self {
-        if self.few {
-            show::element(x);
-        } else {
-            self.digest = (self.digest % 4294967291 * 1000003 + x % 4294967291 + 1) % 4294967291;
-        }
-        self
-    }
-
-    fn end(self) {
-        if self.few {
-            return;
-        }
-        show::text(b" digest");
-        show::next(self.digest);
-    }
+    show::text(b" digest");
+    show::next(digest);
 }
 
 fn wide8(x: u8) -> u64 {
@@ -216,55 +219,57 @@ fn wide32(x: u32) -> u64 {
     x as u64
 }
 
-pub(crate) fn show8(name: &[u8], buffer: &[u8], lent: u64) {
-    let size = extent(lent, buffer.len());
-    let mut shown = Shown::new(name, size);
+pub(crate) fn show8(buffer: &[u8], asked: u64) {
+    let size = length(asked, buffer.len());
+    let few = size <= FEW;
+    let mut digest = 0;
     let mut i = 0;
     while i < size {
-        shown = shown.with(wide8(buffer[i]));
+        digest = shown(few, digest, wide8(buffer[i]));
         i += 1;
     }
-    shown.end();
+    show_digest(few, digest);
 }
 
-pub(crate) fn show16(name: &[u8], buffer: &[u16], lent: u64) {
-    let size = extent(lent, buffer.len());
-    let mut shown = Shown::new(name, size);
+pub(crate) fn show16(buffer: &[u16], asked: u64) {
+    let size = length(asked, buffer.len());
+    let few = size <= FEW;
+    let mut digest = 0;
     let mut i = 0;
     while i < size {
-        shown = shown.with(wide16(buffer[i]));
+        digest = shown(few, digest, wide16(buffer[i]));
         i += 1;
     }
-    shown.end();
+    show_digest(few, digest);
 }
 
-pub(crate) fn show32(name: &[u8], buffer: &[u32], lent: u64) {
-    let size = extent(lent, buffer.len());
-    let mut shown = Shown::new(name, size);
+pub(crate) fn show32(buffer: &[u32], asked: u64) {
+    let size = length(asked, buffer.len());
+    let few = size <= FEW;
+    let mut digest = 0;
     let mut i = 0;
     while i < size {
-        shown = shown.with(wide32(buffer[i]));
+        digest = shown(few, digest, wide32(buffer[i]));
         i += 1;
     }
-    shown.end();
+    show_digest(few, digest);
 }
 
-pub(crate) fn show64(name: &[u8], buffer: &[u64], lent: u64) {
-    let size = extent(lent, buffer.len());
-    let mut shown = Shown::new(name, size);
+pub(crate) fn show64(buffer: &[u64], asked: u64) {
+    let size = length(asked, buffer.len());
+    let few = size <= FEW;
+    let mut digest = 0;
     let mut i = 0;
     while i < size {
-        shown = shown.with(buffer[i]);
+        digest = shown(few, digest, buffer[i]);
         i += 1;
     }
-    shown.end();
+    show_digest(few, digest);
 }
 
 // Heights, every one of them.
-pub(crate) fn show_heights(name: &[u8], buffer: &[i32], lent: u64) {
-    let size = extent(lent, buffer.len());
-    show::text(b"; ");
-    show::text(name);
+pub(crate) fn show_heights(buffer: &[i32], asked: u64) {
+    let size = length(asked, buffer.len());
     let mut i = 0;
     while i < size {
         show::height(buffer[i]);

@@ -15,12 +15,10 @@ pub(crate) fn end() {
 }
 
 // A line's label; its numbers are handed on.
-pub(crate) fn label(line: &[u8]) -> [u64; 128] {
+pub(crate) fn label(line: &[u8]) -> [u64; 12] {
     text(part(line, 0, find(line, 0, b':')));
     text(b":");
-    let numbers = numbers_in(line);
-    let held = numbers.held;
-    held
+    numbers_in(line)
 }
 
 // A number with a space before it.
@@ -49,7 +47,6 @@ pub(crate) fn height(z: i32) {
     text(part(&shown, 0, end));
 }
 
-// What a call answers that returns one number.
 pub(crate) fn done(value: u64) {
     text(b" done");
     next(value);
