@@ -20,16 +20,16 @@ int main(void) {
 
     shagorent_table_reply made = shagorent_clear_table(table, CELLS, HEIGHT, SET);
     for (int i = 0; made.number == SHAGORENT_DONE && i < 2; i++)
-        made = shagorent_add_column(table, CELLS, HEIGHT, SET, made.columns, columns[i], 2);
+        made = shagorent_add_column(table, CELLS, made.head, columns[i], 2);
     if (made.number != SHAGORENT_DONE) return refused(made.number, made.place);
+    shagorent_head head = made.head;
 
-    shagorent_reply plan = shagorent_plan(table, CELLS, HEIGHT, SET, made.columns, SHAGORENT_NO_BOUND, errors, ENTRIES, thicknesses, ENTRIES,
-                                          list, COUNTS);
+    shagorent_reply plan = shagorent_plan(table, CELLS, head, SHAGORENT_NO_BOUND, errors, ENTRIES, thicknesses, ENTRIES, list, COUNTS);
     if (plan.number != SHAGORENT_DONE) return refused(plan.number, plan.value);
-    printf("height %d columns %" PRIu32 " counts %" PRIu64 "\n", HEIGHT, made.columns, plan.value);
+    printf("height %" PRIu32 " columns %" PRIu32 " counts %" PRIu64 "\n", head.height, head.columns, plan.value);
 
     for (uint32_t n = 1; n <= plan.value; n++) {
-        shagorent_reply read = shagorent_read_back(HEIGHT, SET, errors, ENTRIES, thicknesses, ENTRIES, n, sequence, COUNTS + 1);
+        shagorent_reply read = shagorent_read_back(head.height, head.set, errors, ENTRIES, thicknesses, ENTRIES, n, sequence, COUNTS + 1);
         if (read.number == SHAGORENT_NO_SEQUENCE) {
             printf("%" PRIu32 " none\n", n);
             continue;

@@ -6,8 +6,12 @@ import ctypes as c
 import sys
 
 
+class Head(c.Structure):
+    _fields_ = [("height", c.c_uint32), ("set", c.c_uint32), ("columns", c.c_uint32)]
+
+
 class TableReply(c.Structure):
-    _fields_ = [("number", c.c_uint32), ("columns", c.c_uint32), ("place", c.c_uint64)]
+    _fields_ = [("number", c.c_uint32), ("head", Head), ("place", c.c_uint64)]
 
 
 class Reply(c.Structure):
@@ -37,11 +41,11 @@ def main():
     made = library.shagorent_clear_table(*lent(table), height, set_)
     for boundaries in ((1, 4), (0, 3)):
         column = (c.c_uint16 * len(boundaries))(*boundaries)
-        made = library.shagorent_add_column(*lent(table), height, set_, number(made.columns), *lent(column))
+        made = library.shagorent_add_column(*lent(table), made.head, *lent(column))
         assert made.number == 0, (made.number, made.place)
-    plan = library.shagorent_plan(*lent(table), height, set_, number(made.columns), no_bound, *lent(errors), *lent(thicknesses), *lent(leasts))
+    plan = library.shagorent_plan(*lent(table), made.head, no_bound, *lent(errors), *lent(thicknesses), *lent(leasts))
     assert plan.number == 0, (plan.number, plan.value)
-    print("height", height.value, "columns", made.columns, "counts", plan.value)
+    print("height", made.head.height, "columns", made.head.columns, "counts", plan.value)
     for n in range(1, plan.value + 1):
         sequence = (c.c_int32 * (n + 1))()
         read = library.shagorent_read_back(height, set_, *lent(errors), *lent(thicknesses), number(n), *lent(sequence))

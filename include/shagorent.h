@@ -67,9 +67,18 @@ typedef struct {
     uint64_t value; /* the answer, or the place */
 } shagorent_reply;
 
+/* What goes with a table: the settings that it was made for, and its column count. The caller keeps it beside the table: clearing a table or
+ * reading a job into it answers the first, every other call on a table takes it by value straight after the table's length, and each that
+ * changes the table answers the next. */
+typedef struct {
+    uint32_t height;
+    uint32_t set;
+    uint32_t columns;
+} shagorent_head;
+
 typedef struct {
     uint32_t number;
-    uint32_t columns; /* the table's column count then; 0 where refused, and the table has the count that it had */
+    shagorent_head head; /* what goes with the table then; all 0 where refused, and the table has the head that it had */
     uint64_t place;
 } shagorent_table_reply;
 
@@ -87,10 +96,8 @@ typedef struct {
 
 typedef struct {
     uint32_t number;
-    uint32_t height;
-    uint32_t set;
+    shagorent_head head; /* what goes with the job's table; all 0 where refused */
     uint32_t bound;
-    uint32_t columns;
     uint64_t place;
 } shagorent_job_reply;
 
@@ -105,26 +112,26 @@ shagorent_reply shagorent_entries(uint32_t height, uint32_t set);
 /* The greatest count, M = (N + 2*tmax - 2) / tmin: the length of a list; a sequence of n layers has n + 1 boundaries. */
 shagorent_reply shagorent_counts(uint32_t height, uint32_t set);
 
-/* ---- Tables. The caller keeps a table's column count beside it. A table has a cell for each start z from -(tmax-1) to N+tmax-2 and each
- * thickness from 1 to tmax: the layer's error. Starts are outer and thicknesses inner; a cell of a thickness that is not allowed is 0. */
+/* ---- Tables. A table has a cell for each start z from -(tmax-1) to N+tmax-2 and each thickness from 1 to tmax: the layer's error. Starts are
+ * outer and thicknesses inner; a cell of a thickness that is not allowed is 0. */
 
-/* All cells 0, count 0. Refusals 1, 2, 3. */
+/* All cells 0. Answers these settings and column count 0. Refusals 1, 2, 3. */
 shagorent_table_reply shagorent_clear_table(uint32_t *table, size_t table_length, uint32_t height, uint32_t set);
 
-/* Adds a column to a table of `columns` columns: its boundaries, an even number of at most 64, strictly rising, each from 0 to the height;
- * a voxel is inside if an odd number of them are at or below it. Refusals 1, 2, 3, 7, 4, 5, 6. */
-shagorent_table_reply shagorent_add_column(uint32_t *table, size_t table_length, uint32_t height, uint32_t set, uint32_t columns,
-                                           const uint16_t *column, size_t column_length);
+/* Adds a column to a table: its boundaries, an even number of at most 64, strictly rising, each from 0 to the height; a voxel is inside if an
+ * odd number of them are at or below it. Answers one column more. Refusals 1, 2, 3, 7, 4, 5, 6. */
+shagorent_table_reply shagorent_add_column(uint32_t *table, size_t table_length, shagorent_head head, const uint16_t *column,
+                                           size_t column_length);
 
-/* Joins the second table into the first. Refusals 1, 2 of the first, 1, 2 of the second, 8, 3, 7, 6 in the first, 6 in the second. */
-shagorent_table_reply shagorent_join_tables(uint32_t *table, size_t table_length, uint32_t height, uint32_t set, uint32_t columns,
-                                            const uint32_t *other, size_t other_length, uint32_t other_height, uint32_t other_set,
-                                            uint32_t other_columns);
+/* Joins the second table into the first. Answers the sum of their column counts. Refusals 1, 2 of the first, 1, 2 of the second, 8, 3, 7, 6 in
+ * the first, 6 in the second. */
+shagorent_table_reply shagorent_join_tables(uint32_t *table, size_t table_length, shagorent_head head, const uint32_t *other,
+                                            size_t other_length, shagorent_head other_head);
 
-/* Takes the second table off the first. Refusals as for joining, with 7 for either count only, and then 9. */
-shagorent_table_reply shagorent_take_off(uint32_t *table, size_t table_length, uint32_t height, uint32_t set, uint32_t columns,
-                                         const uint32_t *other, size_t other_length, uint32_t other_height, uint32_t other_set,
-                                         uint32_t other_columns);
+/* Takes the second table off the first. Answers the difference of their column counts. Refusals as for joining, with 7 for either count only,
+ * and then 9. */
+shagorent_table_reply shagorent_take_off(uint32_t *table, size_t table_length, shagorent_head head, const uint32_t *other,
+                                         size_t other_length, shagorent_head other_head);
 
 /* ---- Plans. A sequence of n layers is its n + 1 boundaries z0 < z1 < .. < zn. It is admissible if z0 is from -(tmax-1) to 0, zn is at least N
  * and below N + tmax, every difference is an allowed thickness and every layer's error is at most the bound. A sheet has an entry for each
@@ -134,9 +141,8 @@ shagorent_table_reply shagorent_take_off(uint32_t *table, size_t table_length, u
 
 /* Fills the error sheet, the thickness sheet and the list of the least errors of the counts 1 to M, for layers whose error is at most the
  * bound. Answers M. Refusals 1, 2, 3 (table, errors, thicknesses, list), 7, 6. */
-shagorent_reply shagorent_plan(const uint32_t *table, size_t table_length, uint32_t height, uint32_t set, uint32_t columns, uint32_t bound,
-                               uint64_t *errors, size_t errors_length, uint8_t *thicknesses, size_t thicknesses_length, uint64_t *list,
-                               size_t list_length);
+shagorent_reply shagorent_plan(const uint32_t *table, size_t table_length, shagorent_head head, uint32_t bound, uint64_t *errors,
+                               size_t errors_length, uint8_t *thicknesses, size_t thicknesses_length, uint64_t *list, size_t list_length);
 
 /* Reads the sequence of `count` layers back from two sheets into `out`, its count + 1 boundaries from the lowest up. Answers its error.
  * Refusals 1, 2, 3 (errors, thicknesses), 10, 3 (out), 11, 12; over sheets that a plan of these settings left, 12 never occurs. */
@@ -146,8 +152,8 @@ shagorent_reply shagorent_read_back(uint32_t height, uint32_t set, const uint64_
 /* The error of a given sequence over a table. Refusals 1, 2, 3, 7, 6, 13; the place of 13 is 0 for fewer than two boundaries or a start out of
  * range; then the first index from 1 whose difference from the boundary before is not allowed, which is above N+tmax-1, or whose layer is
  * over the bound; last, the index of an end below N. */
-shagorent_reply shagorent_recount(const uint32_t *table, size_t table_length, uint32_t height, uint32_t set, uint32_t columns, uint32_t bound,
-                                  const int32_t *sequence, size_t sequence_length);
+shagorent_reply shagorent_recount(const uint32_t *table, size_t table_length, shagorent_head head, uint32_t bound, const int32_t *sequence,
+                                  size_t sequence_length);
 
 /* ---- Pictures and motors. */
 
@@ -162,10 +168,10 @@ shagorent_height_reply shagorent_motor_height(uint32_t step, int32_t boundary);
 
 /* ---- Job files. */
 
-/* Reads a whole job file into a table, whose cells it replaces; SHAGORENT_MOST_CELLS are enough for any. Answers what the settings ask for, and
- * the column count. Refusals of the file, in its own order: 16, 1, 2, 7, 4, 5, with 17 straight after 1 and 2 where a table or a sheet of
- * its settings has more than `most` entries; then 3, at place 1. Whichever refusal of the file it is, its place is the first byte of the
- * record at fault, and for bytes after the end record the first of them.
+/* Reads a whole job file into a table, whose cells it replaces; SHAGORENT_MOST_CELLS are enough for any. Answers what goes with the table, and
+ * the bound that the settings ask for. Refusals of the file, in its own order: 16, 1, 2, 7, 4, 5, with 17 straight after 1 and 2 where a
+ * table or a sheet of its settings has more than `most` entries; then 3, at place 1. Whichever refusal of the file it is, its place is the
+ * first byte of the record at fault, and for bytes after the end record the first of them.
  *
  * A job file is records: the length of the body in two bytes, a kind in two, the body; every number has its low byte first. One of kind 1 comes
  * first: the height (2 bytes), the set (4), the bound (4). Then columns, kind 2: the boundaries (2 each). Then one of kind 3: the number

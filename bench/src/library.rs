@@ -1,7 +1,7 @@
 // The proved library's C interface as the caller sees it: the structs and functions of libshagorent.a, and a safe call around each.
 // The answers are kept as they come, so that the fields that should be 0 are compared too.
 
-use crate::plain::{Answer, Filled, Loaded, Picture, Second, Sheets};
+use crate::plain::{Answer, Filled, Head, Loaded, Picture, Sheets};
 
 #[repr(C)]
 #[derive(Clone, Copy, Debug, PartialEq, Eq)]
@@ -14,7 +14,7 @@ pub struct Reply {
 #[derive(Clone, Copy, Debug, PartialEq, Eq)]
 pub struct Tabled {
     pub number: u32,
-    pub columns: u32,
+    pub head: Head,
     pub place: u64,
 }
 
@@ -46,54 +46,34 @@ impl PartialEq for Lifted {
 #[derive(Clone, Copy, Debug, PartialEq, Eq)]
 pub struct JobLoaded {
     pub number: u32,
-    pub height: u32,
-    pub set: u32,
+    pub head: Head,
     pub bound: u32,
-    pub columns: u32,
     pub place: u64,
 }
 
 extern "C" {
     fn shagorent_clear_table(table: *mut u32, n: usize, height: u32, set: u32) -> Tabled;
-    fn shagorent_add_column(
-        table: *mut u32,
-        n: usize,
-        height: u32,
-        set: u32,
-        columns: u32,
-        column: *const u16,
-        boundaries: usize,
-    ) -> Tabled;
+    fn shagorent_add_column(table: *mut u32, n: usize, head: Head, column: *const u16, boundaries: usize) -> Tabled;
     fn shagorent_join_tables(
         table: *mut u32,
         n: usize,
-        height: u32,
-        set: u32,
-        columns: u32,
+        head: Head,
         other: *const u32,
         m: usize,
-        other_height: u32,
-        other_set: u32,
-        other_columns: u32,
+        other_head: Head,
     ) -> Tabled;
     fn shagorent_take_off(
         table: *mut u32,
         n: usize,
-        height: u32,
-        set: u32,
-        columns: u32,
+        head: Head,
         other: *const u32,
         m: usize,
-        other_height: u32,
-        other_set: u32,
-        other_columns: u32,
+        other_head: Head,
     ) -> Tabled;
     fn shagorent_plan(
         table: *const u32,
         n: usize,
-        height: u32,
-        set: u32,
-        columns: u32,
+        head: Head,
         bound: u32,
         errors: *mut u64,
         e: usize,
@@ -113,16 +93,7 @@ extern "C" {
         out: *mut i32,
         o: usize,
     ) -> Reply;
-    fn shagorent_recount(
-        table: *const u32,
-        n: usize,
-        height: u32,
-        set: u32,
-        columns: u32,
-        bound: u32,
-        sequence: *const i32,
-        s: usize,
-    ) -> Reply;
+    fn shagorent_recount(table: *const u32, n: usize, head: Head, bound: u32, sequence: *const i32, s: usize) -> Reply;
     fn shagorent_picture(
         height: u32,
         set: u32,
@@ -147,10 +118,13 @@ pub fn as_reply(answer: Answer<u64>) -> Reply {
     }
 }
 
-pub fn as_tabled(answer: Answer<u32>) -> Tabled {
+/// The head of a refusal.
+const NO_HEAD: Head = Head { height: 0, set: 0, columns: 0 };
+
+pub fn as_tabled(answer: Answer<Head>) -> Tabled {
     match answer {
-        Ok(columns) => Tabled { number: 0, columns, place: 0 },
-        Err(r) => Tabled { number: r.number, columns: 0, place: r.place },
+        Ok(head) => Tabled { number: 0, head, place: 0 },
+        Err(r) => Tabled { number: r.number, head: NO_HEAD, place: r.place },
     }
 }
 
@@ -169,10 +143,10 @@ pub fn as_lifted(answer: Answer<f32>) -> Lifted {
 }
 
 pub fn as_loaded(answer: Answer<Loaded>) -> JobLoaded {
-    let (number, place) = answer.map_or_else(|r| (r.number, r.place), |_| (0, 0));
-    let nothing = Loaded { height: 0, set: 0, bound: 0, columns: 0 };
-    let Loaded { height, set, bound, columns } = answer.unwrap_or(nothing);
-    JobLoaded { number, height, set, bound, columns, place }
+    match answer {
+        Ok(Loaded { head, bound }) => JobLoaded { number: 0, head, bound, place: 0 },
+        Err(r) => JobLoaded { number: r.number, head: NO_HEAD, bound: 0, place: r.place },
+    }
 }
 
 // ---- The calls ----
@@ -181,55 +155,24 @@ pub fn clear_table(table: &mut [u32], height: u32, set: u32) -> Tabled {
     unsafe { shagorent_clear_table(table.as_mut_ptr(), table.len(), height, set) }
 }
 
-pub fn add_column(table: &mut [u32], height: u32, set: u32, columns: u32, column: &[u16]) -> Tabled {
-    let (cells, boundaries) = (table.as_mut_ptr(), column.as_ptr());
-    unsafe { shagorent_add_column(cells, table.len(), height, set, columns, boundaries, column.len()) }
+pub fn add_column(table: &mut [u32], head: Head, column: &[u16]) -> Tabled {
+    unsafe { shagorent_add_column(table.as_mut_ptr(), table.len(), head, column.as_ptr(), column.len()) }
 }
 
-pub fn join_tables(table: &mut [u32], height: u32, set: u32, columns: u32, second: Second) -> Tabled {
-    let other = second.cells;
-    unsafe {
-        shagorent_join_tables(
-            table.as_mut_ptr(),
-            table.len(),
-            height,
-            set,
-            columns,
-            other.as_ptr(),
-            other.len(),
-            second.height,
-            second.set,
-            second.columns,
-        )
-    }
+pub fn join_tables(table: &mut [u32], head: Head, other: &[u32], other_head: Head) -> Tabled {
+    unsafe { shagorent_join_tables(table.as_mut_ptr(), table.len(), head, other.as_ptr(), other.len(), other_head) }
 }
 
-pub fn take_off(table: &mut [u32], height: u32, set: u32, columns: u32, second: Second) -> Tabled {
-    let other = second.cells;
-    unsafe {
-        shagorent_take_off(
-            table.as_mut_ptr(),
-            table.len(),
-            height,
-            set,
-            columns,
-            other.as_ptr(),
-            other.len(),
-            second.height,
-            second.set,
-            second.columns,
-        )
-    }
+pub fn take_off(table: &mut [u32], head: Head, other: &[u32], other_head: Head) -> Tabled {
+    unsafe { shagorent_take_off(table.as_mut_ptr(), table.len(), head, other.as_ptr(), other.len(), other_head) }
 }
 
-pub fn plan(table: &[u32], height: u32, set: u32, columns: u32, bound: u32, sheets: Sheets) -> Reply {
+pub fn plan(table: &[u32], head: Head, bound: u32, sheets: Sheets) -> Reply {
     unsafe {
         shagorent_plan(
             table.as_ptr(),
             table.len(),
-            height,
-            set,
-            columns,
+            head,
             bound,
             sheets.errors.as_mut_ptr(),
             sheets.errors.len(),
@@ -257,9 +200,8 @@ pub fn read_back(height: u32, set: u32, sheets: Filled, count: u32, out: &mut [i
     }
 }
 
-pub fn recount(table: &[u32], height: u32, set: u32, columns: u32, bound: u32, sequence: &[i32]) -> Reply {
-    let (cells, boundaries) = (table.as_ptr(), sequence.as_ptr());
-    unsafe { shagorent_recount(cells, table.len(), height, set, columns, bound, boundaries, sequence.len()) }
+pub fn recount(table: &[u32], head: Head, bound: u32, sequence: &[i32]) -> Reply {
+    unsafe { shagorent_recount(table.as_ptr(), table.len(), head, bound, sequence.as_ptr(), sequence.len()) }
 }
 
 pub fn picture(height: u32, set: u32, column: &[u16], start: i32, thickness: u32) -> Pictured {

@@ -1,6 +1,6 @@
 // Random plates, columns, tables, sheets, sequences and job files, good and damaged, small and full size.
 
-use crate::plain::{self, Plate, MOST_COLUMNS};
+use crate::plain::{self, Head, Plate, MOST_COLUMNS};
 use crate::random::Random;
 
 #[derive(Clone, Copy, Debug, PartialEq, Eq)]
@@ -54,6 +54,12 @@ pub fn named(random: &mut Random, plate: Plate) -> (u32, u32) {
     }
 }
 
+/// A table's head as a caller might hand it in: its column count, and mostly its own settings.
+pub fn named_head(random: &mut Random, plate: Plate, head: Head) -> Head {
+    let (height, set) = named(random, plate);
+    Head { height, set, ..head }
+}
+
 // ---- Columns ----
 
 pub fn column(random: &mut Random, height: i64) -> Vec<u16> {
@@ -98,19 +104,18 @@ pub fn handed_column(random: &mut Random, plate: Plate) -> Vec<u16> {
 
 // ---- Tables ----
 
-/// A table's cells and the column count that goes with it.
+/// A table's cells and what goes with it.
 #[derive(Clone)]
 pub struct Table {
     pub cells: Vec<u32>,
-    pub columns: u32,
+    pub head: Head,
 }
 
 pub fn tabulate(plate: Plate, columns: &[Vec<u16>]) -> Table {
-    let mut table = Table { cells: vec![0; plate.cells()], columns: 0 };
+    let mut table = Table { cells: vec![0; plate.cells()], head: plate.head(0) };
     for column in columns {
-        let (height, set) = (plate.height as u32, plate.set);
-        let answer = plain::add_column(&mut table.cells, height, set, table.columns, column);
-        table.columns = answer.expect("the column is good");
+        let answer = plain::add_column(&mut table.cells, table.head, column);
+        table.head = answer.expect("the column is good");
     }
     table
 }
@@ -141,7 +146,7 @@ fn any_cells(random: &mut Random, plate: Plate, columns: u32) -> Table {
         value.min(limit) as u32
     };
     let cells = (0..plate.cells()).map(cell).collect();
-    Table { cells, columns }
+    Table { cells, head: plate.head(columns) }
 }
 
 /// Puts some cells or the count out of bounds, or to their edge, now and then.
@@ -149,20 +154,20 @@ pub fn damage_table(random: &mut Random, plate: Plate, table: &mut Table) {
     if random.one_in(4) {
         for _ in 0..random.pick(&[1, 1, 2, 5]) {
             let i = random.index(table.cells.len());
-            let limit = plate.limit(i, table.columns.min(MOST_COLUMNS));
+            let limit = plate.limit(i, table.head.columns.min(MOST_COLUMNS));
             let any = random.word() as u32;
             table.cells[i] = random.pick(&[limit, limit + 1, limit + 1, u32::MAX, any, 1]);
         }
     }
     if random.one_in(12) {
-        let (any, one_less) = (random.word() as u32, table.columns.saturating_sub(1));
-        table.columns = random.pick(&[0, one_less, one_less, 999_999, 1_000_000, 1_000_001, u32::MAX, any]);
+        let (any, one_less) = (random.word() as u32, table.head.columns.saturating_sub(1));
+        table.head.columns = random.pick(&[0, one_less, one_less, 999_999, 1_000_000, 1_000_001, u32::MAX, any]);
     }
 }
 
 pub fn bound(random: &mut Random, table: &Table) -> u32 {
     let held = table.cells[random.index(table.cells.len())];
-    let some = random.below(u64::from(table.columns) * 4 + 2) as u32;
+    let some = random.below(u64::from(table.head.columns) * 4 + 2) as u32;
     random.pick(&[u32::MAX, u32::MAX, 0, 1, 2, held, held.saturating_sub(1), some, some, u32::MAX - 1])
 }
 
@@ -196,8 +201,7 @@ pub fn sheets(plate: Plate, table: &Table, bound: u32) -> Sheets {
     };
     let lent =
         plain::Sheets { errors: &mut sheets.errors, thicknesses: &mut sheets.thicknesses, list: &mut sheets.list };
-    let (height, set) = (plate.height as u32, plate.set);
-    plain::plan(&table.cells, height, set, table.columns, bound, lent).expect("the table is good");
+    plain::plan(&table.cells, table.head, bound, lent).expect("the table is good");
     sheets
 }
 

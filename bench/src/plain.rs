@@ -60,6 +60,11 @@ impl Plate {
         Ok(Plate { height, set, tmin, tmax })
     }
 
+    /// What goes with a table of so many columns that was made for these settings.
+    pub fn head(self, columns: u32) -> Head {
+        Head { height: self.height as u32, set: self.set, columns }
+    }
+
     pub fn allows(self, thickness: i64) -> bool {
         in_set(self.set, thickness)
     }
@@ -116,6 +121,22 @@ impl Plate {
         } else {
             0
         }
+    }
+}
+
+/// What a caller says goes with a table: settings and a column count, of any numbers. It crosses the C interface as it is.
+#[repr(C)]
+#[derive(Clone, Copy, Debug, PartialEq, Eq)]
+pub struct Head {
+    pub height: u32,
+    pub set: u32,
+    pub columns: u32,
+}
+
+impl Head {
+    /// Its settings, or 1 or 2.
+    pub fn plate(self) -> Answer<Plate> {
+        Plate::new(self.height, self.set)
     }
 }
 
@@ -234,25 +255,25 @@ pub fn picture(height: u32, set: u32, column: &[u16], start: i32, thickness: u32
 
 // ---- Table ----
 
-pub fn clear_table(table: &mut [u32], height: u32, set: u32) -> Answer<u32> {
+pub fn clear_table(table: &mut [u32], height: u32, set: u32) -> Answer<Head> {
     let plate = Plate::new(height, set)?;
     check_lent(&[(table.len(), plate.cells())])?;
     table[..plate.cells()].fill(0);
-    Ok(0)
+    Ok(plate.head(0))
 }
 
-pub fn add_column(table: &mut [u32], height: u32, set: u32, columns: u32, column: &[u16]) -> Answer<u32> {
-    let plate = Plate::new(height, set)?;
+pub fn add_column(table: &mut [u32], head: Head, column: &[u16]) -> Answer<Head> {
+    let plate = head.plate()?;
     check_lent(&[(table.len(), plate.cells())])?;
-    check_room(columns)?;
+    check_room(head.columns)?;
     check_column(plate, column)?;
     let shares = shares(plate, column);
-    let bad = |&i: &usize| shares[i] > 0 && table[i] > plate.limit(i, columns);
+    let bad = |&i: &usize| shares[i] > 0 && table[i] > plate.limit(i, head.columns);
     refuse_at(6, (0..plate.cells()).find(bad))?;
     for (cell, share) in table.iter_mut().zip(&shares) {
         *cell += share;
     }
-    Ok(columns + 1)
+    Ok(plate.head(head.columns + 1))
 }
 
 /// What a column adds to each cell of the table.
@@ -269,57 +290,47 @@ fn shares(plate: Plate, column: &[u16]) -> Vec<u32> {
     (0..plate.cells()).map(share).collect()
 }
 
-/// A table with what was said to go with it; `cells` is what was lent.
-#[derive(Clone, Copy, Debug)]
-pub struct Second<'a> {
-    pub cells: &'a [u32],
-    pub height: u32,
-    pub set: u32,
-    pub columns: u32,
-}
-
 /// 1 and 2 for both, 8, 3 and 7 for either count.
-fn check_two(table: &[u32], height: u32, set: u32, columns: u32, second: Second) -> Answer<Plate> {
-    let plate = Plate::new(height, set)?;
-    let other = Plate::new(second.height, second.set)?;
-    if plate != other {
+fn check_two(table: &[u32], head: Head, other: &[u32], other_head: Head) -> Answer<Plate> {
+    let plate = head.plate()?;
+    if plate != other_head.plate()? {
         return refuse(8, 0);
     }
-    check_lent(&[(table.len(), plate.cells()), (second.cells.len(), plate.cells())])?;
-    check_columns(columns)?;
-    check_columns(second.columns)?;
+    check_lent(&[(table.len(), plate.cells()), (other.len(), plate.cells())])?;
+    check_columns(head.columns)?;
+    check_columns(other_head.columns)?;
     Ok(plate)
 }
 
-pub fn join_tables(table: &mut [u32], height: u32, set: u32, columns: u32, second: Second) -> Answer<u32> {
-    let plate = check_two(table, height, set, columns, second)?;
-    let sum = columns + second.columns;
+pub fn join_tables(table: &mut [u32], head: Head, other: &[u32], other_head: Head) -> Answer<Head> {
+    let plate = check_two(table, head, other, other_head)?;
+    let sum = head.columns + other_head.columns;
     check_columns(sum)?;
-    check_cells(plate, table, columns)?;
-    check_cells(plate, second.cells, second.columns)?;
-    for (cell, other) in table[..plate.cells()].iter_mut().zip(second.cells) {
+    check_cells(plate, table, head.columns)?;
+    check_cells(plate, other, other_head.columns)?;
+    for (cell, other) in table[..plate.cells()].iter_mut().zip(other) {
         *cell += other;
     }
-    Ok(sum)
+    Ok(plate.head(sum))
 }
 
-pub fn take_off(table: &mut [u32], height: u32, set: u32, columns: u32, second: Second) -> Answer<u32> {
-    let plate = check_two(table, height, set, columns, second)?;
-    check_cells(plate, table, columns)?;
-    check_cells(plate, second.cells, second.columns)?;
-    if second.columns > columns {
+pub fn take_off(table: &mut [u32], head: Head, other: &[u32], other_head: Head) -> Answer<Head> {
+    let plate = check_two(table, head, other, other_head)?;
+    check_cells(plate, table, head.columns)?;
+    check_cells(plate, other, other_head.columns)?;
+    if other_head.columns > head.columns {
         return refuse(9, 0);
     }
-    let rest = columns - second.columns;
+    let rest = head.columns - other_head.columns;
     let bad = |&i: &usize| {
-        let difference = i64::from(table[i]) - i64::from(second.cells[i]);
+        let difference = i64::from(table[i]) - i64::from(other[i]);
         difference < 0 || difference > i64::from(plate.limit(i, rest))
     };
     refuse_at(9, (0..plate.cells()).find(bad))?;
-    for (cell, other) in table[..plate.cells()].iter_mut().zip(second.cells) {
+    for (cell, other) in table[..plate.cells()].iter_mut().zip(other) {
         *cell -= other;
     }
-    Ok(rest)
+    Ok(plate.head(rest))
 }
 
 // ---- Plan ----
@@ -331,16 +342,16 @@ pub struct Sheets<'a> {
     pub list: &'a mut [u64],
 }
 
-pub fn plan(table: &[u32], height: u32, set: u32, columns: u32, bound: u32, sheets: Sheets) -> Answer<u64> {
-    let plate = Plate::new(height, set)?;
+pub fn plan(table: &[u32], head: Head, bound: u32, sheets: Sheets) -> Answer<u64> {
+    let plate = head.plate()?;
     check_lent(&[
         (table.len(), plate.cells()),
         (sheets.errors.len(), plate.entries()),
         (sheets.thicknesses.len(), plate.entries()),
         (sheets.list.len(), plate.counts()),
     ])?;
-    check_columns(columns)?;
-    check_cells(plate, table, columns)?;
+    check_columns(head.columns)?;
+    check_cells(plate, table, head.columns)?;
     for height in plate.lowest()..=plate.highest() {
         for count in 0..=plate.counts() {
             let (error, thickness) = least(plate, table, bound, sheets.errors, height, count);
@@ -427,11 +438,11 @@ fn walk_down(plate: Plate, thicknesses: &[u8], end: i64, count: usize) -> Answer
     Ok(boundaries)
 }
 
-pub fn recount(table: &[u32], height: u32, set: u32, columns: u32, bound: u32, sequence: &[i32]) -> Answer<u64> {
-    let plate = Plate::new(height, set)?;
+pub fn recount(table: &[u32], head: Head, bound: u32, sequence: &[i32]) -> Answer<u64> {
+    let plate = head.plate()?;
     check_lent(&[(table.len(), plate.cells())])?;
-    check_columns(columns)?;
-    check_cells(plate, table, columns)?;
+    check_columns(head.columns)?;
+    check_cells(plate, table, head.columns)?;
     let heights: Vec<i64> = sequence.iter().map(|&z| i64::from(z)).collect();
     if heights.len() < 2 || heights[0] < plate.lowest() || heights[0] > 0 {
         return refuse(13, 0);
@@ -483,17 +494,17 @@ fn eighth(number: i32) -> f32 {
 
 // ---- Job file ----
 
+/// What goes with a job's table, and the bound that it asks for.
 #[derive(Clone, Copy, Debug, PartialEq, Eq)]
 pub struct Loaded {
-    pub height: u32,
-    pub set: u32,
+    pub head: Head,
     pub bound: u32,
-    pub columns: u32,
 }
 
-/// A whole job file's settings and columns.
+/// A whole job file's settings, bound and columns.
 struct Job {
-    settings: Loaded,
+    plate: Plate,
+    bound: u32,
     columns: Vec<Vec<u16>>,
 }
 
@@ -505,14 +516,12 @@ struct Record<'a> {
 
 pub fn read_job(input: &[u8], most: usize, table: &mut [u32]) -> Answer<Loaded> {
     let job = read_records(input, most)?;
-    let Loaded { height, set, .. } = job.settings;
-    let plate = Plate::new(height, set)?;
-    check_lent(&[(table.len(), plate.cells())])?;
-    let mut columns = clear_table(table, height, set)?;
+    check_lent(&[(table.len(), job.plate.cells())])?;
+    let mut head = clear_table(table, job.plate.height as u32, job.plate.set)?;
     for column in &job.columns {
-        columns = add_column(table, height, set, columns, column)?;
+        head = add_column(table, head, column)?;
     }
-    Ok(Loaded { columns, ..job.settings })
+    Ok(Loaded { head, bound: job.bound })
 }
 
 fn read_records(input: &[u8], most: usize) -> Answer<Job> {
@@ -573,16 +582,14 @@ fn settings(body: &[u8], most: usize) -> Answer<Job> {
     if plate.cells() > most || plate.entries() > most {
         return refuse(17, 0);
     }
-    let settings = Loaded { height, set, bound, columns: 0 };
-    Ok(Job { settings, columns: Vec::new() })
+    Ok(Job { plate, bound, columns: Vec::new() })
 }
 
 /// 7, 4, 5, or the column.
 fn next_column(job: &Job, body: &[u8]) -> Answer<Vec<u16>> {
-    let plate = Plate::new(job.settings.height, job.settings.set)?;
     let column: Vec<u16> = body.chunks(2).map(|two| number(two) as u16).collect();
     check_room(job.columns.len() as u32)?;
-    check_column(plate, &column)?;
+    check_column(job.plate, &column)?;
     Ok(column)
 }
 

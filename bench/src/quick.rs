@@ -1,7 +1,7 @@
 // Document 01's calls in safe Rust written for speed, to be timed beside the library: planners with the count innermost, adding after the
 // source paper's Algorithm 1, scans row by row. All refusals are given, so the work is the same; tests/quick.rs holds them to plain.rs.
 
-use crate::plain::{Answer, Filled, Plate, Refusal, Second, Sheets};
+use crate::plain::{Answer, Filled, Head, Plate, Refusal, Sheets};
 use crate::plain::{MOST_BOUNDARIES, MOST_COLUMNS, NONE};
 
 fn refuse<T>(number: u32, place: usize) -> Answer<T> {
@@ -44,16 +44,8 @@ pub enum Reach {
     PossibleOnly,
 }
 
-pub fn plan(
-    reach: Reach,
-    table: &[u32],
-    height: u32,
-    set: u32,
-    columns: u32,
-    bound: u32,
-    sheets: Sheets,
-) -> Answer<u64> {
-    let plate = Plate::new(height, set)?;
+pub fn plan(reach: Reach, table: &[u32], head: Head, bound: u32, sheets: Sheets) -> Answer<u64> {
+    let plate = head.plate()?;
     let (entries, counts) = (plate.entries(), plate.counts());
     let stated = [
         table.len() >= plate.cells(),
@@ -64,10 +56,10 @@ pub fn plan(
     if let Some(short) = stated.iter().position(|&enough| !enough) {
         return refuse(3, short + 1);
     }
-    if columns > MOST_COLUMNS {
+    if head.columns > MOST_COLUMNS {
         return refuse(7, 0);
     }
-    check_cells(plate, table, columns)?;
+    check_cells(plate, table, head.columns)?;
     match reach {
         Reach::Every => fill(plate, table, bound, sheets, |_| (0, counts)),
         Reach::UpToGreatest => fill(plate, table, bound, sheets, |row| (0, greatest(plate, row))),
@@ -152,12 +144,12 @@ fn fill_list(plate: Plate, errors: &[u64], list: &mut [u64]) {
 // ---- Adding ----
 
 /// Refusals 1, 2, 3, 7, 4 and 5 of adding.
-fn check_adding(table: &[u32], height: u32, set: u32, columns: u32, column: &[u16]) -> Answer<Plate> {
-    let plate = Plate::new(height, set)?;
+fn check_adding(table: &[u32], head: Head, column: &[u16]) -> Answer<Plate> {
+    let plate = head.plate()?;
     if table.len() < plate.cells() {
         return refuse(3, 1);
     }
-    if columns >= MOST_COLUMNS {
+    if head.columns >= MOST_COLUMNS {
         return refuse(7, 0);
     }
     if column.len() % 2 == 1 || column.len() > MOST_BOUNDARIES {
@@ -165,7 +157,7 @@ fn check_adding(table: &[u32], height: u32, set: u32, columns: u32, column: &[u1
     }
     let mut least = 0;
     for (i, &boundary) in column.iter().enumerate() {
-        if u32::from(boundary) < least || u32::from(boundary) > height {
+        if u32::from(boundary) < least || u32::from(boundary) > head.height {
             return refuse(5, i);
         }
         least = u32::from(boundary) + 1;
@@ -211,9 +203,9 @@ fn signed_sum(column: &[u16], k: usize, start: i64, end: i64) -> i64 {
 }
 
 /// Algorithm 1 twice: once for refusal 6, once to add.
-pub fn add_by_algorithm_1(table: &mut [u32], height: u32, set: u32, columns: u32, column: &[u16]) -> Answer<u32> {
-    let plate = check_adding(table, height, set, columns, column)?;
-    let limits = limits(plate, columns);
+pub fn add_by_algorithm_1(table: &mut [u32], head: Head, column: &[u16]) -> Answer<Head> {
+    let plate = check_adding(table, head, column)?;
+    let limits = limits(plate, head.columns);
     let mut bad = None;
     by_algorithm_1(plate, column, &limits, |cell, limit, _| {
         if table[cell] > limit {
@@ -228,19 +220,19 @@ pub fn add_by_algorithm_1(table: &mut [u32], height: u32, set: u32, columns: u32
         table[cell] += share;
         true
     });
-    Ok(columns + 1)
+    Ok(Head { columns: head.columns + 1, ..head })
 }
 
 /// The same layers start by start, with the inside count carried from one thickness to the next; one pass, taken back where refusal 6 is met.
-pub fn add_carrying(table: &mut [u32], height: u32, set: u32, columns: u32, column: &[u16]) -> Answer<u32> {
-    let plate = check_adding(table, height, set, columns, column)?;
-    let limits = limits(plate, columns);
+pub fn add_carrying(table: &mut [u32], head: Head, column: &[u16]) -> Answer<Head> {
+    let plate = check_adding(table, head, column)?;
+    let limits = limits(plate, head.columns);
     let bad = carry(plate, column, |row, shares| add_row(&mut table[row..], &limits, shares));
     if let Some(cell) = bad {
         carry(plate, column, |row, shares| take_row(&mut table[row..], row, cell, shares));
         return refuse(6, cell);
     }
-    Ok(columns + 1)
+    Ok(Head { columns: head.columns + 1, ..head })
 }
 
 /// The shares of the thicknesses of one start that hold a boundary: from `first` on, 0 where not allowed.
@@ -315,49 +307,50 @@ fn take_row(row: &mut [u32], at: usize, cell: usize, shares: &Shares) -> Option<
 
 // ---- Joining and taking off ----
 
-fn check_two(table: &[u32], height: u32, set: u32, columns: u32, second: Second) -> Answer<Plate> {
-    let plate = Plate::new(height, set)?;
-    if Plate::new(second.height, second.set)? != plate {
+fn check_two(table: &[u32], head: Head, other: &[u32], other_head: Head) -> Answer<Plate> {
+    let plate = head.plate()?;
+    if other_head.plate()? != plate {
         return refuse(8, 0);
     }
     if table.len() < plate.cells() {
         return refuse(3, 1);
     }
-    if second.cells.len() < plate.cells() {
+    if other.len() < plate.cells() {
         return refuse(3, 2);
     }
-    if columns > MOST_COLUMNS || second.columns > MOST_COLUMNS {
+    if head.columns > MOST_COLUMNS || other_head.columns > MOST_COLUMNS {
         return refuse(7, 0);
     }
     Ok(plate)
 }
 
-pub fn join_tables(table: &mut [u32], height: u32, set: u32, columns: u32, second: Second) -> Answer<u32> {
-    let plate = check_two(table, height, set, columns, second)?;
-    if columns + second.columns > MOST_COLUMNS {
+pub fn join_tables(table: &mut [u32], head: Head, other: &[u32], other_head: Head) -> Answer<Head> {
+    let plate = check_two(table, head, other, other_head)?;
+    let sum = head.columns + other_head.columns;
+    if sum > MOST_COLUMNS {
         return refuse(7, 0);
     }
-    check_cells(plate, table, columns)?;
-    check_cells(plate, second.cells, second.columns)?;
-    for (cell, other) in table[..plate.cells()].iter_mut().zip(second.cells) {
+    check_cells(plate, table, head.columns)?;
+    check_cells(plate, other, other_head.columns)?;
+    for (cell, other) in table[..plate.cells()].iter_mut().zip(other) {
         *cell += other;
     }
-    Ok(columns + second.columns)
+    Ok(Head { columns: sum, ..head })
 }
 
-pub fn take_off(table: &mut [u32], height: u32, set: u32, columns: u32, second: Second) -> Answer<u32> {
-    let plate = check_two(table, height, set, columns, second)?;
-    check_cells(plate, table, columns)?;
-    check_cells(plate, second.cells, second.columns)?;
-    if second.columns > columns {
+pub fn take_off(table: &mut [u32], head: Head, other: &[u32], other_head: Head) -> Answer<Head> {
+    let plate = check_two(table, head, other, other_head)?;
+    check_cells(plate, table, head.columns)?;
+    check_cells(plate, other, other_head.columns)?;
+    if other_head.columns > head.columns {
         return refuse(9, 0);
     }
-    let (table, rest) = (&mut table[..plate.cells()], columns - second.columns);
-    check_part(plate, table, second.cells, rest)?;
-    for (cell, other) in table.iter_mut().zip(second.cells) {
+    let (table, rest) = (&mut table[..plate.cells()], head.columns - other_head.columns);
+    check_part(plate, table, other, rest)?;
+    for (cell, other) in table.iter_mut().zip(other) {
         *cell -= other;
     }
-    Ok(rest)
+    Ok(Head { columns: rest, ..head })
 }
 
 /// 9, cell by cell; both cells are below 2^31, so a negative difference wraps beyond every limit.

@@ -3,7 +3,8 @@
 
 use crate::library::{as_lifted, as_loaded, as_pictured, as_reply, as_tabled};
 use crate::library::{JobLoaded, Lifted, Pictured, Reply, Tabled};
-use crate::plain::{self, Filled, Plate, Refusal, Second, Sheets};
+use crate::plain::{self, Filled, Head, Plate, Refusal, Sheets};
+use std::mem::swap;
 use std::slice::{from_raw_parts, from_raw_parts_mut};
 use std::sync::OnceLock;
 
@@ -38,6 +39,9 @@ pub const FAULTS: &[&str] = &[
     "read job: the remarks begin one kind later",
     "sizes: a sheet has no count 0",
     "take off: a greater second count is 9 at 1",
+    "join: another height is answered",
+    "take off: a refusal still answers the settings",
+    "read job: the set and the column count are swapped",
 ];
 
 fn fault() -> usize {
@@ -74,24 +78,22 @@ unsafe extern "C" fn shagorent_clear_table(table: *mut u32, n: usize, height: u3
 unsafe extern "C" fn shagorent_add_column(
     table: *mut u32,
     n: usize,
-    height: u32,
-    set: u32,
-    columns: u32,
+    head: Head,
     column: *const u16,
     boundaries: usize,
 ) -> Tabled {
     let (table, column) = (lent_mut(table, n), lent(column, boundaries));
     let before = table.to_vec();
-    let mut answer = plain::add_column(table, height, set, columns, column);
+    let mut answer = plain::add_column(table, head, column);
     if answer.is_ok() && is("add: twice the share") {
         table.iter_mut().zip(&before).for_each(|(cell, before)| *cell += *cell - before);
     }
-    if answer.is_ok() && columns == 1 && is("add: the second column is counted and not tabulated") {
+    if answer.is_ok() && head.columns == 1 && is("add: the second column is counted and not tabulated") {
         table.copy_from_slice(&before);
     }
     if answer.is_ok() && is("add: every cell is looked at for 6") {
-        let plate = Plate::new(height, set).unwrap();
-        if let Some(cell) = (0..plate.cells()).find(|&i| before[i] > plate.limit(i, columns)) {
+        let plate = head.plate().unwrap();
+        if let Some(cell) = (0..plate.cells()).find(|&i| before[i] > plate.limit(i, head.columns)) {
             table.copy_from_slice(&before);
             answer = Err(Refusal { number: 6, place: cell as u64 });
         }
@@ -101,7 +103,7 @@ unsafe extern "C" fn shagorent_add_column(
     }
     let mut tabled = as_tabled(answer);
     if answer.is_err() && is("add: a refusal still answers a column count") {
-        tabled.columns = columns;
+        tabled.head.columns = head.columns;
     }
     tabled
 }
@@ -110,29 +112,28 @@ unsafe extern "C" fn shagorent_add_column(
 unsafe extern "C" fn shagorent_join_tables(
     table: *mut u32,
     n: usize,
-    height: u32,
-    set: u32,
-    columns: u32,
+    head: Head,
     other: *const u32,
     m: usize,
-    other_height: u32,
-    other_set: u32,
-    other_columns: u32,
+    other_head: Head,
 ) -> Tabled {
-    let second = Second { cells: lent(other, m), height: other_height, set: other_set, columns: other_columns };
-    let mut answer = plain::join_tables(lent_mut(table, n), height, set, columns, second);
+    let second = lent(other, m);
+    let mut answer = plain::join_tables(lent_mut(table, n), head, second, other_head);
     if answer.err().is_some_and(|r| r.number == 7) && is("join: the sum of the counts is not judged") {
-        answer = Ok(columns.wrapping_add(other_columns));
+        answer = Ok(Head { columns: head.columns.wrapping_add(other_head.columns), ..head });
     }
     if answer.err().is_some_and(|r| r.number == 6) && is("join: the second table is looked at first for 6") {
-        let plate = Plate::new(height, set).unwrap();
-        let bad = |&i: &usize| second.cells[i] > plate.limit(i, other_columns);
+        let plate = head.plate().unwrap();
+        let bad = |&i: &usize| second[i] > plate.limit(i, other_head.columns);
         if let Some(cell) = (0..plate.cells()).find(bad) {
             answer = Err(Refusal { number: 6, place: cell as u64 });
         }
     }
     if answer.is_ok() && is("join: the second table is written") {
         *other.cast_mut() += 1;
+    }
+    if is("join: another height is answered") {
+        answer = answer.map(|head| Head { height: head.height + 1, ..head });
     }
     as_tabled(answer)
 }
@@ -141,39 +142,37 @@ unsafe extern "C" fn shagorent_join_tables(
 unsafe extern "C" fn shagorent_take_off(
     table: *mut u32,
     n: usize,
-    height: u32,
-    set: u32,
-    columns: u32,
+    head: Head,
     other: *const u32,
     m: usize,
-    other_height: u32,
-    other_set: u32,
-    other_columns: u32,
+    other_head: Head,
 ) -> Tabled {
-    let second = Second { cells: lent(other, m), height: other_height, set: other_set, columns: other_columns };
-    let table = lent_mut(table, n);
-    let mut answer = plain::take_off(table, height, set, columns, second);
+    let (table, second) = (lent_mut(table, n), lent(other, m));
+    let mut answer = plain::take_off(table, head, second, other_head);
     let refused_9 = answer.err().is_some_and(|r| r.number == 9);
-    if refused_9 && other_columns > columns && is("take off: a greater second count is 9 at 1") {
+    let greater = other_head.columns > head.columns;
+    if refused_9 && greater && is("take off: a greater second count is 9 at 1") {
         answer = Err(Refusal { number: 9, place: 1 });
     }
-    if refused_9 && other_columns <= columns && is("take off: what is left is not held to its limit") {
-        let cells = Plate::new(height, set).unwrap().cells();
-        if (0..cells).all(|i| table[i] >= second.cells[i]) {
-            (0..cells).for_each(|i| table[i] -= second.cells[i]);
-            answer = Ok(columns - other_columns);
+    if refused_9 && !greater && is("take off: what is left is not held to its limit") {
+        let cells = head.plate().unwrap().cells();
+        if (0..cells).all(|i| table[i] >= second[i]) {
+            (0..cells).for_each(|i| table[i] -= second[i]);
+            answer = Ok(Head { columns: head.columns - other_head.columns, ..head });
         }
     }
-    as_tabled(answer)
+    let mut tabled = as_tabled(answer);
+    if refused_9 && is("take off: a refusal still answers the settings") {
+        tabled.head = Head { columns: 0, ..head };
+    }
+    tabled
 }
 
 #[no_mangle]
 unsafe extern "C" fn shagorent_plan(
     table: *const u32,
     n: usize,
-    height: u32,
-    set: u32,
-    columns: u32,
+    head: Head,
     bound: u32,
     errors: *mut u64,
     e: usize,
@@ -186,15 +185,15 @@ unsafe extern "C" fn shagorent_plan(
     let sheets = Sheets { errors, thicknesses, list: lent_mut(list, l) };
     let left_out = bound < u32::MAX && is("plan: a layer at the bound is left out");
     let used = if left_out { bound.saturating_sub(1) } else { bound };
-    let mut answer = plain::plan(table, height, set, columns, used, sheets);
+    let mut answer = plain::plan(table, head, used, sheets);
     if answer.is_ok() && is("plan: among equals the thickest layer") {
-        thickest(Plate::new(height, set).unwrap(), table, bound, errors, thicknesses);
+        thickest(head.plate().unwrap(), table, bound, errors, thicknesses);
     }
     if answer.is_ok() && is("plan: one entry past the list is written") {
-        *list.add(Plate::new(height, set).unwrap().counts()) = 0;
+        *list.add(head.plate().unwrap().counts()) = 0;
     }
     let short = answer.err().is_some_and(|r| r.number == 3);
-    if short && columns > plain::MOST_COLUMNS && is("plan: 7 comes before 3") {
+    if short && head.columns > plain::MOST_COLUMNS && is("plan: 7 comes before 3") {
         answer = Err(Refusal { number: 7, place: 0 });
     }
     as_reply(answer)
@@ -253,18 +252,16 @@ unsafe extern "C" fn shagorent_read_back(
 unsafe extern "C" fn shagorent_recount(
     table: *const u32,
     n: usize,
-    height: u32,
-    set: u32,
-    columns: u32,
+    head: Head,
     bound: u32,
     sequence: *const i32,
     s: usize,
 ) -> Reply {
     let (table, sequence) = (lent(table, n), lent(sequence, s));
-    let mut answer = plain::recount(table, height, set, columns, bound, sequence);
+    let mut answer = plain::recount(table, head, bound, sequence);
     let refused_at = answer.err().filter(|r| r.number == 13).map(|r| r.place as usize);
     if let Some(i) = refused_at.filter(|&i| i > 0) {
-        let plate = Plate::new(height, set).unwrap();
+        let plate = head.plate().unwrap();
         let thickness = i64::from(sequence[i]) - i64::from(sequence[i - 1]);
         let wrapped = i64::from(sequence[i].wrapping_sub(sequence[i - 1]) & 31);
         if !plate.allows(thickness) && plate.allows(wrapped) && is("recount: a difference of two boundaries wraps") {
@@ -329,7 +326,11 @@ unsafe extern "C" fn shagorent_read_job(
     if refused == 0 && is("read job: the remarks begin one kind later") && input[2..4] == [0, 128] {
         answer = Err(Refusal { number: 16, place: 0 });
     }
-    as_loaded(answer)
+    let mut loaded = as_loaded(answer);
+    if is("read job: the set and the column count are swapped") {
+        swap(&mut loaded.head.set, &mut loaded.head.columns);
+    }
+    loaded
 }
 
 #[no_mangle]

@@ -9,8 +9,7 @@ const SEED: u64 = 1;
 const PLATES: u64 = 4_000;
 
 struct Sample {
-    height: u32,
-    set: u32,
+    head: Head,
     table: Vec<u32>,
     listed: brute::Plate,
 }
@@ -33,17 +32,19 @@ fn sample(case: u64) -> (Sample, Random) {
     let bound = random.pick(&[u32::MAX, 0, 1, small]);
     let bits = set.iter().map(|t| 1 << (t - 1)).sum();
     let listed = brute::Plate { height, set, columns, bound };
-    let table = tabulate(height as u32, bits, &listed.columns);
-    (Sample { height: height as u32, set: bits, table, listed }, random)
+    let (table, head) = tabulate(height as u32, bits, &listed.columns);
+    (Sample { head, table, listed }, random)
 }
 
-fn tabulate(height: u32, set: u32, columns: &[Vec<u16>]) -> Vec<u32> {
+/// The table of some columns, and what goes with it.
+fn tabulate(height: u32, set: u32, columns: &[Vec<u16>]) -> (Vec<u32>, Head) {
     let mut table = vec![99; cells(height, set).unwrap() as usize];
-    let mut count = clear_table(&mut table, height, set).unwrap();
+    let mut head = clear_table(&mut table, height, set).unwrap();
     for column in columns {
-        count = add_column(&mut table, height, set, count, column).unwrap();
+        head = add_column(&mut table, head, column).unwrap();
     }
-    table
+    assert_eq!(head, Head { height, set, columns: columns.len() as u32 });
+    (table, head)
 }
 
 #[test]
@@ -63,14 +64,13 @@ fn plans_agree() {
 }
 
 fn compare_plan(case: u64, sample: &Sample) {
-    let (height, set) = (sample.height, sample.set);
+    let Head { height, set, .. } = sample.head;
     let plate = Plate::new(height, set).unwrap();
     assert_eq!(plate.counts(), sample.listed.greatest_count());
     let (mut errors, mut thicknesses) = (vec![7; plate.entries()], vec![7; plate.entries()]);
     let mut list = vec![7; plate.counts()];
     let sheets = Sheets { errors: &mut errors, thicknesses: &mut thicknesses, list: &mut list };
-    let columns = sample.listed.columns.len() as u32;
-    let answer = plan(&sample.table, height, set, columns, sample.listed.bound, sheets);
+    let answer = plan(&sample.table, sample.head, sample.listed.bound, sheets);
     assert_eq!(answer, Ok(plate.counts() as u64));
 
     let chosen = brute::choose(&sample.listed, &sample.listed.every_sequence());
@@ -130,8 +130,7 @@ fn spoil(random: &mut Random, boundaries: &mut Vec<i64>) {
 
 fn compare_recount(case: u64, sample: &Sample, boundaries: &[i64]) {
     let sequence: Vec<i32> = boundaries.iter().map(|&z| z as i32).collect();
-    let columns = sample.listed.columns.len() as u32;
-    let answer = recount(&sample.table, sample.height, sample.set, columns, sample.listed.bound, &sequence);
+    let answer = recount(&sample.table, sample.head, sample.listed.bound, &sequence);
     let layer = |pair: &[i64]| u64::from(brute::layer_error(&sample.listed.columns, pair[0], pair[1] - pair[0]));
     if sample.listed.is_admissible(boundaries) {
         assert_eq!(answer, Ok(boundaries.windows(2).map(layer).sum()), "case {case}, {boundaries:?}");
@@ -144,13 +143,14 @@ fn compare_recount(case: u64, sample: &Sample, boundaries: &[i64]) {
 fn pictures_agree() {
     for case in 0..PLATES {
         let (sample, _) = sample(case);
-        let plate = Plate::new(sample.height, sample.set).unwrap();
+        let Head { height, set, .. } = sample.head;
+        let plate = Plate::new(height, set).unwrap();
         for column in &sample.listed.columns {
             for start in plate.lowest()..=plate.last_start() {
                 for thickness in plate.thicknesses() {
                     let (inside, outside) = brute::inside_outside(column, start, thickness);
                     let expected = Picture { filled: inside > outside, share: inside.min(outside) };
-                    let answer = picture(sample.height, sample.set, column, start as i32, thickness as u32);
+                    let answer = picture(height, set, column, start as i32, thickness as u32);
                     assert_eq!(answer, Ok(expected), "case {case}");
                 }
             }
@@ -162,17 +162,16 @@ fn pictures_agree() {
 fn groups_agree() {
     for case in 0..PLATES {
         let (sample, mut random) = sample(case);
-        let (height, set) = (sample.height, sample.set);
+        let Head { height, set, .. } = sample.head;
         let split = random.index(sample.listed.columns.len() + 1);
         let (first, second) = sample.listed.columns.split_at(split);
-        let other = tabulate(height, set, second);
-        let other = Second { cells: &other, height, set, columns: second.len() as u32 };
-        let mut table = tabulate(height, set, first);
-        let whole = (first.len() + second.len()) as u32;
-        assert_eq!(join_tables(&mut table, height, set, first.len() as u32, other), Ok(whole), "case {case}");
+        let (part, head) = tabulate(height, set, first);
+        let (other, other_head) = tabulate(height, set, second);
+        let mut table = part.clone();
+        assert_eq!(join_tables(&mut table, head, &other, other_head), Ok(sample.head), "case {case}");
         assert_eq!(table, sample.listed.table(), "case {case}");
-        assert_eq!(take_off(&mut table, height, set, whole, other), Ok(first.len() as u32), "case {case}");
-        assert_eq!(table, tabulate(height, set, first), "case {case}");
+        assert_eq!(take_off(&mut table, sample.head, &other, other_head), Ok(head), "case {case}");
+        assert_eq!(table, part, "case {case}");
     }
 }
 
@@ -182,9 +181,7 @@ fn files_agree() {
         let (sample, mut random) = sample(case);
         let file = file_of(&sample, &mut random);
         let mut table = vec![99; sample.table.len()];
-        let columns = sample.listed.columns.len() as u32;
-        let bound = sample.listed.bound;
-        let expected = Loaded { height: sample.height, set: sample.set, bound, columns };
+        let expected = Loaded { head: sample.head, bound: sample.listed.bound };
         assert_eq!(read_job(&file, 4_096, &mut table), Ok(expected), "case {case}");
         assert_eq!(table, sample.listed.table(), "case {case}");
         for length in 0..file.len() {
@@ -202,8 +199,8 @@ fn record(file: &mut Vec<u8>, kind: u16, body: &[u8]) {
 
 fn file_of(sample: &Sample, random: &mut Random) -> Vec<u8> {
     let mut file = Vec::new();
-    let mut settings = (sample.height as u16).to_le_bytes().to_vec();
-    settings.extend(sample.set.to_le_bytes());
+    let mut settings = (sample.head.height as u16).to_le_bytes().to_vec();
+    settings.extend(sample.head.set.to_le_bytes());
     settings.extend(sample.listed.bound.to_le_bytes());
     remark(&mut file, random);
     record(&mut file, 1, &settings);

@@ -1,7 +1,7 @@
 // The quick Rust that is timed beside the library gives the plain implementation's answers and cells, on good and damaged input.
 
 use bench::make;
-use bench::plain::{self, Filled, Second, Sheets};
+use bench::plain::{self, Filled, Head, Sheets};
 use bench::quick::{self, Reach};
 use bench::random::Random;
 
@@ -17,7 +17,7 @@ fn planners_agree() {
         let mut table = make::table(&mut random, plate, size);
         let bound = make::bound(&mut random, &table);
         make::damage_table(&mut random, plate, &mut table);
-        let (height, set) = make::named(&mut random, plate);
+        let head = make::named_head(&mut random, plate, table.head);
         let lengths = [plate.entries(), plate.entries(), plate.counts()].map(|n| make::length(&mut random, n));
         let run = |reach: Option<Reach>| {
             let (mut errors, mut thicknesses) = (vec![3; lengths[0]], vec![3; lengths[1]]);
@@ -25,8 +25,8 @@ fn planners_agree() {
             let sheets = Sheets { errors: &mut errors, thicknesses: &mut thicknesses, list: &mut list };
             let cells = &table.cells;
             let answer = match reach {
-                None => plain::plan(cells, height, set, table.columns, bound, sheets),
-                Some(reach) => quick::plan(reach, cells, height, set, table.columns, bound, sheets),
+                None => plain::plan(cells, head, bound, sheets),
+                Some(reach) => quick::plan(reach, cells, head, bound, sheets),
             };
             (answer, errors, thicknesses, list)
         };
@@ -60,12 +60,12 @@ fn adding_agrees() {
         let mut table = make::table(&mut random, plate, size);
         make::damage_table(&mut random, plate, &mut table);
         let column = make::handed_column(&mut random, plate);
-        let (height, set) = make::named(&mut random, plate);
+        let head = make::named_head(&mut random, plate, table.head);
         let mut expected = table.cells.clone();
-        let answer = plain::add_column(&mut expected, height, set, table.columns, &column);
+        let answer = plain::add_column(&mut expected, head, &column);
         for add in [quick::add_by_algorithm_1, quick::add_carrying] {
             let mut cells = table.cells.clone();
-            assert_eq!(add(&mut cells, height, set, table.columns, &column), answer, "case {case}");
+            assert_eq!(add(&mut cells, head, &column), answer, "case {case}");
             assert!(cells == expected, "case {case}");
         }
     }
@@ -79,18 +79,15 @@ fn groups_agree() {
         let plate = make::plate(&mut random, size);
         let mut table = make::table(&mut random, plate, size);
         let mut other = make::table(&mut random, plate, size);
-        let (height, set) = (plate.height as u32, plate.set);
-        let second = Second { cells: &other.cells, height, set, columns: other.columns };
-        if let Ok(sum) = plain::join_tables(&mut table.cells, height, set, table.columns, second) {
-            table.columns = sum;
+        if let Ok(both) = plain::join_tables(&mut table.cells, table.head, &other.cells, other.head) {
+            table.head = both;
         }
         make::damage_table(&mut random, plate, &mut table);
         make::damage_table(&mut random, plate, &mut other);
-        let (other_height, other_set) = make::named(&mut random, plate);
-        let second = Second { cells: &other.cells, height: other_height, set: other_set, columns: other.columns };
-        let run = |call: fn(&mut [u32], u32, u32, u32, Second) -> plain::Answer<u32>| {
+        let other_head = make::named_head(&mut random, plate, other.head);
+        let run = |call: fn(&mut [u32], Head, &[u32], Head) -> plain::Answer<Head>| {
             let mut cells = table.cells.clone();
-            (call(&mut cells, height, set, table.columns, second), cells)
+            (call(&mut cells, table.head, &other.cells, other_head), cells)
         };
         assert!(run(plain::join_tables) == run(quick::join_tables), "case {case}");
         assert!(run(plain::take_off) == run(quick::take_off), "case {case}");

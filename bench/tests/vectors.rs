@@ -8,29 +8,34 @@ fn refused<T>(number: u32, place: u64) -> Answer<T> {
     Err(Refusal { number, place })
 }
 
+/// What goes with a table of so many columns.
+fn head_of(height: u32, set: u32, columns: usize) -> Head {
+    Head { height, set, columns: columns as u32 }
+}
+
 fn table_of(height: u32, set: u32, columns: &[&[u16]]) -> Vec<u32> {
     let mut table = vec![7; cells(height, set).unwrap() as usize];
-    let mut count = clear_table(&mut table, height, set).unwrap();
+    let mut head = clear_table(&mut table, height, set).unwrap();
     for column in columns {
-        count = add_column(&mut table, height, set, count, column).unwrap();
+        head = add_column(&mut table, head, column).unwrap();
     }
-    assert_eq!(count as usize, columns.len());
+    assert_eq!(head, head_of(height, set, columns.len()));
     table
 }
 
 /// The error and the boundaries of a count.
 fn chosen(height: u32, set: u32, columns: &[&[u16]], bound: u32, count: u32) -> Answer<(u64, Vec<i32>)> {
-    let table = table_of(height, set, columns);
+    let (table, head) = (table_of(height, set, columns), head_of(height, set, columns.len()));
     let entries = entries(height, set)? as usize;
     let (mut errors, mut thicknesses) = (vec![5; entries], vec![5; entries]);
     let mut list = vec![5; counts(height, set)? as usize];
     let sheets = Sheets { errors: &mut errors, thicknesses: &mut thicknesses, list: &mut list };
-    plan(&table, height, set, columns.len() as u32, bound, sheets)?;
+    plan(&table, head, bound, sheets)?;
     let mut out = vec![0; count as usize + 1];
     let sheets = Filled { errors: &errors, thicknesses: &thicknesses };
     let error = read_back(height, set, sheets, count, &mut out)?;
     assert_eq!(list[count as usize - 1], error);
-    assert_eq!(recount(&table, height, set, columns.len() as u32, bound, &out), Ok(error));
+    assert_eq!(recount(&table, head, bound, &out), Ok(error));
     Ok((error, out))
 }
 
@@ -86,8 +91,8 @@ fn limits_on_both_sides() {
     assert_eq!(motor_height(1, 544), refused(15, 0));
     assert_eq!(motor_height(1, -32), refused(15, 0));
     let mut table = table_of(4, 6, &[]);
-    assert_eq!(add_column(&mut table, 4, 6, 999_999, A), Ok(1_000_000));
-    assert_eq!(add_column(&mut table, 4, 6, 1_000_000, &[1]), refused(7, 0));
+    assert_eq!(add_column(&mut table, head_of(4, 6, 999_999), A), Ok(head_of(4, 6, 1_000_000)));
+    assert_eq!(add_column(&mut table, head_of(4, 6, 1_000_000), &[1]), refused(7, 0));
 }
 
 #[test]
@@ -111,7 +116,7 @@ const FILE: [u8; 48] = [
 fn worked_file() {
     let file = &FILE[..38];
     let mut table = vec![9; 26];
-    let loaded = Loaded { height: 4, set: 6, bound: ANY, columns: 2 };
+    let loaded = Loaded { head: head_of(4, 6, 2), bound: ANY };
     assert_eq!(read_job(file, 45, &mut table), Ok(loaded));
     assert_eq!(table[..24], table_of(4, 6, &[A, B]));
     assert_eq!(table[24..], [9, 9]);

@@ -4,7 +4,7 @@
 
 use bench::library;
 use bench::make::{self, Table};
-use bench::plain::{self, Answer, Filled, Plate, Second, Sheets};
+use bench::plain::{self, Answer, Filled, Head, Plate, Sheets};
 use bench::quick::{self, Reach};
 use bench::random::Random;
 use std::hint::black_box;
@@ -70,29 +70,28 @@ fn clocked(work: impl FnOnce()) -> Duration {
 
 // ---- Planning ----
 
-type Planner = fn(&[u32], Plate, u32, Sheets) -> u64;
+type Planner = fn(&[u32], Head, Sheets) -> u64;
 
-fn by_library(cells: &[u32], plate: Plate, columns: u32, sheets: Sheets) -> u64 {
-    let reply = library::plan(cells, plate.height as u32, plate.set, columns, u32::MAX, sheets);
+fn by_library(cells: &[u32], head: Head, sheets: Sheets) -> u64 {
+    let reply = library::plan(cells, head, u32::MAX, sheets);
     assert_eq!(reply.number, 0);
     reply.value
 }
 
-fn by_rust(reach: Reach, cells: &[u32], plate: Plate, columns: u32, sheets: Sheets) -> u64 {
-    let answer = quick::plan(reach, cells, plate.height as u32, plate.set, columns, u32::MAX, sheets);
-    answer.expect("the table is good")
+fn by_rust(reach: Reach, cells: &[u32], head: Head, sheets: Sheets) -> u64 {
+    quick::plan(reach, cells, head, u32::MAX, sheets).expect("the table is good")
 }
 
 const PLANNERS: [Planner; 4] = [
     by_library,
-    |cells, plate, columns, sheets| by_rust(Reach::Every, cells, plate, columns, sheets),
-    |cells, plate, columns, sheets| by_rust(Reach::UpToGreatest, cells, plate, columns, sheets),
-    |cells, plate, columns, sheets| by_rust(Reach::PossibleOnly, cells, plate, columns, sheets),
+    |cells, head, sheets| by_rust(Reach::Every, cells, head, sheets),
+    |cells, head, sheets| by_rust(Reach::UpToGreatest, cells, head, sheets),
+    |cells, head, sheets| by_rust(Reach::PossibleOnly, cells, head, sheets),
 ];
 
-fn plan_into(planner: Planner, plate: Plate, table: &Table, sheets: &mut make::Sheets) -> u64 {
+fn plan_into(planner: Planner, table: &Table, sheets: &mut make::Sheets) -> u64 {
     let lent = Sheets { errors: &mut sheets.errors, thicknesses: &mut sheets.thicknesses, list: &mut sheets.list };
-    planner(&table.cells, plate, table.columns, lent)
+    planner(&table.cells, table.head, lent)
 }
 
 /// What each planner leaves in sheets that held something else.
@@ -102,7 +101,7 @@ fn compare_planners(plate: Plate, table: &Table, sheets: &mut make::Sheets) {
         sheets.errors.fill(1);
         sheets.thicknesses.fill(1);
         sheets.list.fill(1);
-        plan_into(planner, plate, table, sheets);
+        plan_into(planner, table, sheets);
         assert!(sheets.errors == expected.errors && sheets.thicknesses == expected.thicknesses);
         assert!(sheets.list == expected.list);
     }
@@ -122,7 +121,7 @@ fn planning(rounds: usize, name: &str, height: u32, set: u32, times: u32) {
         Box::new(move |sheets| {
             clocked(|| {
                 for _ in 0..times {
-                    black_box(plan_into(planner, plate, black_box(table), sheets));
+                    black_box(plan_into(planner, black_box(table), sheets));
                 }
             })
         })
@@ -143,26 +142,25 @@ fn some_table(plate: Plate, columns: u64) -> Table {
 
 // ---- Adding ----
 
-type Adder = fn(&mut [u32], u32, u32, u32, &[u16]) -> u32;
+type Adder = fn(&mut [u32], Head, &[u16]) -> Head;
 
-fn good(answer: Answer<u32>) -> u32 {
+fn good(answer: Answer<Head>) -> Head {
     answer.expect("the input is good")
 }
 
-fn tabled(answer: library::Tabled) -> u32 {
+fn tabled(answer: library::Tabled) -> Head {
     assert_eq!(answer.number, 0);
-    answer.columns
+    answer.head
 }
 
 const ADDERS: [Adder; 3] = [
-    |table, height, set, columns, column| tabled(library::add_column(table, height, set, columns, column)),
-    |table, height, set, columns, column| good(quick::add_by_algorithm_1(table, height, set, columns, column)),
-    |table, height, set, columns, column| good(quick::add_carrying(table, height, set, columns, column)),
+    |table, head, column| tabled(library::add_column(table, head, column)),
+    |table, head, column| good(quick::add_by_algorithm_1(table, head, column)),
+    |table, head, column| good(quick::add_carrying(table, head, column)),
 ];
 
-fn add_all(adder: Adder, plate: Plate, cells: &mut [u32], columns: &[Vec<u16>]) -> u32 {
-    let (height, set) = (plate.height as u32, plate.set);
-    columns.iter().fold(0, |count, column| adder(cells, height, set, count, column))
+fn add_all(adder: Adder, plate: Plate, cells: &mut [u32], columns: &[Vec<u16>]) -> Head {
+    columns.iter().fold(plate.head(0), |head, column| adder(cells, head, column))
 }
 
 fn adding(rounds: usize, boundaries: usize) {
@@ -206,16 +204,16 @@ fn columns_of(plate: Plate, boundaries: usize) -> Vec<Vec<u16>> {
 
 const JOINS: u32 = 200;
 
-type Joiner = fn(&mut [u32], u32, u32, u32, Second) -> u32;
+type Joiner = fn(&mut [u32], Head, &[u32], Head) -> Head;
 
 const JOINERS: [Joiner; 2] = [
-    |table, height, set, columns, second| tabled(library::join_tables(table, height, set, columns, second)),
-    |table, height, set, columns, second| good(quick::join_tables(table, height, set, columns, second)),
+    |table, head, other, other_head| tabled(library::join_tables(table, head, other, other_head)),
+    |table, head, other, other_head| good(quick::join_tables(table, head, other, other_head)),
 ];
 
 const TAKERS: [Joiner; 2] = [
-    |table, height, set, columns, second| tabled(library::take_off(table, height, set, columns, second)),
-    |table, height, set, columns, second| good(quick::take_off(table, height, set, columns, second)),
+    |table, head, other, other_head| tabled(library::take_off(table, head, other, other_head)),
+    |table, head, other, other_head| good(quick::take_off(table, head, other, other_head)),
 ];
 
 fn row(name: &str, unit: f64, taken: &Times) {
@@ -233,11 +231,11 @@ fn joining(rounds: usize, name: &str, joiners: [Joiner; 2], first: &Table, expec
             table.clone_from(first);
             let taken = clocked(|| {
                 for _ in 0..JOINS {
-                    let other = Second { cells: &second.cells, height: 512, set: ALL, columns: second.columns };
-                    table.columns = joiner(&mut table.cells, 512, ALL, table.columns, black_box(other));
+                    let (other, other_head) = black_box((&second.cells, second.head));
+                    table.head = joiner(&mut table.cells, table.head, other, other_head);
                 }
             });
-            assert!(table.columns == expected.columns && table.cells == expected.cells);
+            assert!(table.head == expected.head && table.cells == expected.cells);
             taken
         })
     };
@@ -249,7 +247,8 @@ fn joining_and_taking_off(rounds: usize) {
     let plate = Plate::new(512, ALL).expect("allowed");
     let one = some_table(plate, 100);
     let times = JOINS + 1;
-    let many = Table { cells: one.cells.iter().map(|cell| cell * times).collect(), columns: one.columns * times };
+    let cells = one.cells.iter().map(|cell| cell * times).collect();
+    let many = Table { cells, head: plate.head(one.head.columns * times) };
     joining(rounds, "joining, µs a call", JOINERS, &one, &many);
     joining(rounds, "taking off, µs a call", TAKERS, &many, &one);
 }

@@ -34,7 +34,7 @@ one-more N [] bs o e = (e, tt)
 one-more N (c ∷ columns) bs o e = (o .0, one-more N columns bs (o .1) e)
 
 -- states with one head and bound ask for the same
-same-asked : (st st′ : State) → st .head ≡ st′ .head → st .bound ≡ st′ .bound → askedOf st ≡ askedOf st′
+pub same-asked : (st st′ : State) → st .head ≡ st′ .head → st .bound ≡ st′ .bound → askedOf st ≡ askedOf st′
 same-asked st st′ h b = λ i. record { height = h i .height; members = h i .members; bound = b i }
 
 module _ (asking : Asking) (s : List ℕ) where

@@ -21,10 +21,10 @@ use Rattle.plate.specs.declared.head.Head.{Head}
 use Rattle.plate.specs.declared.refusal.Refusal.{Refusal}
 use Rattle.plate.proofs.Heads.{not-full}
 use Rattle.column.specs.Order.{columnChecks}
-use Rattle.table.specs.Plates.{tableOf}
+use Rattle.table.specs.Plates.{tableOf, plateHeld}
 use Rattle.table.proofs.Plates.{length-table}
 use Rattle.adding.specs.Adding.{adding, added}
-use Rattle.adding.proofs.Plates.{plateHeld, added-is, adds}
+use Rattle.adding.proofs.Plates.{added-is, adds}
 use Rattle.record.specs.Bytes.{words}
 use Rattle.record.proofs.Bytes.{length-words}
 use Rattle.plate.specs.Settings.{settingsChecks}
@@ -37,7 +37,7 @@ use Rattle.job.specs.declared.State.{State}
 use Rattle.job.proofs.Says.{SaysBy, read-says}
 use Rattle.job.proofs.Folding.{finished}
 use Rattle.job.proofs.Ordering.{under, asks-for}
-use Rattle.load.specs.Load.{sizeChecks, frontOf, headOf}
+use Rattle.load.specs.Load.{sizeChecks, frontOf}
 use Rattle.load.specs.Heeding.{Heeded, Addable, addedAll, Cleared, filledBy}
 use Rattle.load.specs.declared.Heed.{Heed}
 use Rattle.load.specs.declared.Heed.the-variants as heed

@@ -4,16 +4,13 @@ use Prim.Native.Nat.{ℕ}
 use mathlib.Core.Bool.{Bool, true, _||_}
 use mathlib.Core.List.{List, [], _∷_}
 use lib.Dec.{ltb}
-use lib.ListN.{length}
-use Rattle.paper.specs.Layer.{Column}
 use Rattle.paper.specs.Table.{cells}
 use Rattle.paper.specs.Sheets.{entries}
 use Rattle.plate.specs.Refusal.{Told, done, refused, refusal, check}
 use Rattle.plate.specs.Call.{Call, answerOf, leftBy}
 use Rattle.plate.specs.Head.{heldIn, clearedHead}
-use Rattle.plate.specs.declared.head.Head.{Head}
 use Rattle.table.specs.Table.{short}
-use Rattle.table.specs.Plates.{tableOf}
+use Rattle.table.specs.Plates.{tableOf, headOf}
 use Rattle.job.specs.File.{Job, Finished, Asking, jobFrom, wholeFile}
 use Rattle.job.specs.declared.Asked.{Asked}
 use Rattle.load.specs.declared.Load.{Load}
@@ -39,9 +36,6 @@ jobOf most s = wholeFile (sizeChecks most) s
 -- ---- the call
 
 -- what goes with the table of a job's columns, and the job's bound
-abbrev pub headOf : ℕ → ℕ → List Column → Head
-headOf N T columns = record { height = N; members = T; columns = length columns }
-
 abbrev pub loadOf : Job → Load
 loadOf job = record { head = headOf (job .asked .height) (job .asked .members) (job .columns); bound = job .asked .bound }
 

@@ -2,7 +2,7 @@
 -- so the two agree on those and have the same choice. The index of a layer's cell is written in two digits to the base tmax, how far the
 -- start is above the table's first and how far the thickness is above 1; so from the index the layer's start and thickness come back.
 -- Tables whose cells add up divide the plate for the same reason. Assumes nothing.
-use Prim.Native.Nat.{ℕ, _+_, _-_, _*_, _<_}
+use Prim.Native.Nat.{ℕ, _+_, _-_, _<_}
 use mathlib.Core.Path.{_≡_, refl, sym, ap, _∙_}
 use mathlib.Core.Logic.{_↔_}
 use mathlib.Core.List.{List, [], _∷_, map}

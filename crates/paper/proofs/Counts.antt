@@ -2,7 +2,7 @@
 -- tmin that fit between the lowest start and the highest end, nor than one of layers of tmax that reach a last layer's start. Who plans,
 -- reads back or lends a sheet knows M by these laws alone, and not by its formula. A quotient is at most its dividend, and at least what
 -- times the divisor is at most the dividend. Assumes nothing.
-use Prim.Native.Nat.{ℕ, _+_, _-_, _*_, _/_, _≤_}
+use Prim.Native.Nat.{ℕ, _+_, _-_, _*_, _≤_}
 use native.Mathlib.Nat.{div-le-self, le-div-iff-mul-le, mul-le-mul-left}
 use native.Mathlib.Omega.{arith}
 use Rattle.paper.specs.Limits.{leastHeight, greatestHeight}

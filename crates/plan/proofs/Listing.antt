@@ -1,6 +1,6 @@
 -- What is read from an error sheet that a plan filled: its entries at the end heights are the leasts there, so the best of them is the top of
 -- the chosen sequence, and its error is the least of that count. Assumes nothing.
-use Prim.Native.Nat.{ℕ, _+_, _≤_}
+use Prim.Native.Nat.{ℕ, _≤_}
 use mathlib.Core.Path.{_≡_, sym, ap, _∙_}
 use mathlib.Core.List.{List}
 use native.Mathlib.Omega.{arith}

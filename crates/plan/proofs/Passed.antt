@@ -1,14 +1,13 @@
 -- The refusals of a plan: what each test that holds says, and what is known where none does. Past 3 the table is asked as any other
 -- (`table-asks`), and a table in order is ready to be planned. Assumes nothing.
 use mathlib.Core.Path.{_≡_, sym, ap, _∙_}
-use mathlib.Core.List.{_∷_}
 use mathlib.Core.Option.{none, some}
 use Prim.Native.Nat.{ℕ, _≤_, _<_}
 use native.Mathlib.Omega.{arith}
 use borrow.Author.Tests.{lt-ltb, le-ltb, ltb-false}
 use lib.ListN.{length}
 use Rattle.lists.specs.Checks.{first}
-use Rattle.lists.proofs.Checks.{first-none, first-later, first-passed}
+use Rattle.lists.proofs.Checks.{first-none, first-later}
 use Rattle.paper.specs.Sequence.{M}
 use Rattle.paper.specs.Sheets.{entries}
 use Rattle.plate.specs.Head.{Held, cellsOf, headChecks, SettingsFor}

@@ -14,7 +14,7 @@ use Rattle.lists.specs.Best.{Best, value, place}
 use Rattle.lists.proofs.Spans.{span-within}
 use Rattle.paper.specs.Sheets.{rowStart, entryIndex, missing}
 use Rattle.paper.proofs.Counts.{counts-reach}
-use Rattle.plate.specs.Datum.{rowOf, atRow}
+use Rattle.plate.specs.Datum.{atRow}
 use Rattle.plate.specs.Settings.{Sound}
 use Rattle.plate.specs.declared.settings.Settings.{Settings}
 use Rattle.sequence.specs.Sequence.{Rules}

@@ -1,6 +1,6 @@
 -- No sum of layers' errors comes near the mark for none: over a table whose cells are in bounds, m layers have an error of at most m times
 -- the greatest cell, since every permitted layer has a cell of the table. By induction on the layers from the top down. Assumes nothing.
-use Prim.Native.Nat.{ℕ, zero, suc, _+_, _-_, _*_, _≤_, _<_}
+use Prim.Native.Nat.{ℕ, _+_, _-_, _*_, _≤_, _<_}
 use mathlib.Core.Path.{_≡_, refl}
 use mathlib.Core.Bool.{true}
 use mathlib.Core.List.{List}

@@ -15,8 +15,8 @@ use lib.Seq.{set-split, drop-at, length-take-le, take-set-lt, slice-empty}
 use Rattle.paper.specs.Layer.{tmax}
 use Rattle.plate.specs.Datum.{heightOf}
 use Rattle.sequence.specs.Rules.{shape}
+use Rattle.sequence.specs.Sequence.{starts}
 use Rattle.sequence.specs.Sheets.{faultUnder, boundariesUnder}
-use Rattle.sequence.proofs.Layers.{start-in, start-high}
 use Rattle.readback.specs.Walking.{faultOf, notedFrom, Walked}
 use Rattle.readback.specs.declared.Walk.{Walk}
 use Rattle.readback.specs.declared.Walk.the-variants.{Fault}
@@ -45,13 +45,13 @@ module _ (look : ℕ → ℕ → ℕ) (N T k h t : ℕ) (p : 0 < k) (is : t ≡ 
   fault-on e = step ∙ rw e
 
 -- the end of a walk
-pub fault-end : (look : ℕ → ℕ → ℕ) (N T k h : ℕ) → k ≡ 0 → 32 < h → faultUnder look N T k h ≡ some 0
+pub fault-end : (look : ℕ → ℕ → ℕ) (N T k h : ℕ) → k ≡ 0 → starts (tmax T) h ≡ false → faultUnder look N T k h ≡ some 0
 unfolding faultUnder
-fault-end look N T k h e l = rw (e, start-high (tmax T) h l)
+fault-end look N T k h e s = rw (e, s)
 
-pub fine-end : (look : ℕ → ℕ → ℕ) (N T k h : ℕ) → k ≡ 0 → 32 < h + tmax T → h ≤ 32 → faultUnder look N T k h ≡ none
+pub fine-end : (look : ℕ → ℕ → ℕ) (N T k h : ℕ) → k ≡ 0 → starts (tmax T) h ≡ true → faultUnder look N T k h ≡ none
 unfolding faultUnder
-fine-end look N T k h e l u = rw (e, start-in (tmax T) h l u)
+fine-end look N T k h e s = rw (e, s)
 
 -- a store at k, seen from k on
 stored : (l : List ℕ) (k h : ℕ) → k < length l → drop k (set l k h) ≡ h ∷ drop (k + 1) l

@@ -24,7 +24,9 @@ use sheets::Least;
 use sheets::NONE;
 use sheets::entry_index;
 use sheets::is_layer;
+use sheets::is_start;
 use sheets::least_end;
+use sheets::row_of;
 
 // How a walk down a sheet of thicknesses ends.
 pub enum Walk {
@@ -38,7 +40,7 @@ fn thickness_at(thicknesses: &[u8], s: Settings, h: usize, m: usize) -> usize
     requires { ⌜ InSheet s (length (now thicknesses)) m h ⌝ }
     ensures { λ r. ⌜ r ≡ entry (s .height) (s .members) (now (thicknesses .entry)) m h ⌝ }
 {
-    let row = h + s.tmax - 33;
+    let row = row_of(s.tmax as u32, h as u32);
     let at = entry_index(s.counts as u32, row as u32, m as u32);
     thicknesses[at] as usize
 }
@@ -49,7 +51,7 @@ fn is_layer_under(s: Settings, h: usize, t: usize) -> bool
     requires { ⌜ (32 < h + s .tmax) × (h < s .height + 32 + s .tmax) ⌝ }
     ensures { λ r. ⌜ r ≡ shape (s .height) (s .members) (h - t) t ⌝ }
 {
-    let row = h + s.tmax - 33;
+    let row = row_of(s.tmax as u32, h as u32);
     if row < t {
         return false;
     }
@@ -75,7 +77,7 @@ fn walk_down(thicknesses: &[u8], s: Settings, n: usize, top: usize, heights: &mu
         h -= t;
         k -= 1;
     }
-    if 32 < h {
+    if !is_start(s.tmax, h) {
         return Walk::Fault(0);
     }
     heights[0] = h as u16;

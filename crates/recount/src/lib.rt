@@ -1,6 +1,6 @@
 // Recounting a given sequence over a table.
 ghost use mathlib.Core.Path.{_≡_};
-ghost use Prim.Native.Nat.{_+_, _<_, _≤_};
+ghost use Prim.Native.Nat.{_+_, _<_};
 ghost use lib.ListN.{length};
 ghost use Rattle.paper.specs.Sequence.{_!_};
 ghost use Rattle.plate.specs.Call.{Does};
@@ -18,6 +18,8 @@ use plate::refusal::refusal_at;
 use plate::settings::Made;
 use plate::settings::Settings;
 use sheets::is_layer;
+use sheets::is_start;
+use sheets::row_of;
 use table::cell_of;
 use table::check_table;
 
@@ -45,7 +47,7 @@ fn look(table: &[u32], s: Settings, bound: u32, below: usize, above: usize) -> L
         return Layer::Out;
     }
     let t = above - below;
-    let row = below + s.tmax - 33;
+    let row = row_of(s.tmax as u32, below as u32);
     if !is_layer(s, row, t) {
         return Layer::Out;
     }
@@ -91,10 +93,7 @@ fn recount_sequence(table: &[u32], s: Settings, bound: u32, sequence: &[i32]) ->
         return Answer::Refused(refusal_at(Reason::NotAdmissible, 0));
     }
     let start = datum_at(sequence, 0);
-    if 32 < start {
-        return Answer::Refused(refusal_at(Reason::NotAdmissible, 0));
-    }
-    if start + s.tmax <= 32 {
+    if !is_start(s.tmax, start) {
         return Answer::Refused(refusal_at(Reason::NotAdmissible, 0));
     }
     recount_layers(table, s, bound, sequence)

@@ -7,7 +7,7 @@ use mathlib.Core.Bool.{Bool, true, false, cond}
 use mathlib.Core.Option.{none}
 use native.Mathlib.Omega.{arith}
 use native.Mathlib.Numerals.{add-one}
-use Rattle.lists.specs.Best.{Best, nothing, found, value, place, better, bestOf}
+use Rattle.lists.specs.Best.{nothing, found, value, place, better, bestOf}
 use Rattle.sequence.specs.Sequence.{Rules, starts}
 use Rattle.sequence.specs.Least.{via, bestTo, least, last}
 use Rattle.sequence.specs.Sheets.{mark}

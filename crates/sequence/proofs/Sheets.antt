@@ -1,6 +1,6 @@
 -- Reading back from the sheets that a plan leaves gives the chosen sequence, and never a fault: the entries at the end heights are the
 -- leasts there, so the walk starts at the chosen top, and each thickness that it looks up is that of the chosen last layer. Assumes nothing.
-use Prim.Native.Nat.{ℕ, zero, suc, _+_, _-_, _*_, _≤_, _<_}
+use Prim.Native.Nat.{ℕ, zero, suc, _+_, _-_, _≤_, _<_}
 use mathlib.Core.Path.{_≡_, refl, _∙_, ap}
 use mathlib.Core.Bool.{true}
 use mathlib.Core.Option.{none, some}

@@ -14,7 +14,7 @@ ghost use Rattle.adding.specs.Adding.{adding};
 ghost use Rattle.joining.specs.Joining.{joining, taking};
 ghost use Rattle.plan.specs.Plan.{planning, sheetsIn};
 ghost use Rattle.readback.specs.Reading.{reading};
-ghost use Rattle.recount.specs.Recount.{recountAnswer};
+ghost use Rattle.recount.specs.Recount.{recounting};
 ghost use Rattle.load.specs.Load.{toldLoad, jobOf, loading};
 ghost use Rattle.shagorent.specs.Replies.{Replies, reply, tableReply, pictureReply, heightReply, jobReply};
 use adding::add_column;
@@ -257,8 +257,13 @@ pub extern "C" fn shagorent_read_back(
 }
 
 #[no_mangle]
-pub extern "C" fn shagorent_recount(table: &[u32], head: Head, bound: u32, sequence: &[i32]) -> Reply
-    ensures { λ r. ⌜ r ≡ reply (recountAnswer (heldIn head (now (table .entry))) bound (now (sequence .entry))) ⌝ }
+pub extern "C" fn shagorent_recount(
+    table: &[u32],
+    head: Head,
+    bound: u32,
+    sequence: &[i32],
+) -> Reply
+    ensures { λ r. ⌜ Replies reply (recounting (heldIn head (now (table .entry))) bound (now (sequence .entry))) r tt ⌝ }
 {
     reply_of(recount(table, head, bound, sequence))
 }

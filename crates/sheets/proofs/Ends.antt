@@ -2,14 +2,14 @@
 -- (`entry-less`, `entry-keep`). In a sheet that is whole the entries of a count stand one row apart, so the least of them, from the lowest
 -- end height on, is `endOf` (`end-is`). Assumes nothing.
 use Prim.Native.Nat.{ℕ, _+_, _-_, _*_, _^_, _≤_, _<_}
-use mathlib.Core.Path.{_≡_, refl, sym, ap, _∙_}
+use mathlib.Core.Path.{_≡_, sym, ap, _∙_}
 use mathlib.Core.List.{List}
 use mathlib.Core.Option.{Option}
 use native.Mathlib.Decide.{decLt}
 use native.Mathlib.Nat.{add-mul}
 use native.Mathlib.Omega.{arith}
 use lib.ListN.{length, getD, List·getD-eq-default}
-use Rattle.lists.specs.Best.{Best, value, place, bestOf}
+use Rattle.lists.specs.Best.{value, place, bestOf}
 use Rattle.lists.proofs.Best.{best-same}
 use Rattle.paper.specs.Layer.{tmax}
 use Rattle.paper.specs.Sheets.{entryIndex, missing}

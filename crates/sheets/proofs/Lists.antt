@@ -1,7 +1,7 @@
 -- What is read of a list: within it the same, whatever is read past its end. And the best of some places, counted from 0 or from where they
 -- stand: the same, with each place raised. Both by induction. Assumes nothing.
 use Prim.Native.Nat.{ℕ, zero, suc, _+_, _<_}
-use mathlib.Core.Path.{_≡_, refl, sym, ap, ap₂, _∙_}
+use mathlib.Core.Path.{_≡_, refl, sym, ap, _∙_}
 use mathlib.Core.Bool.{Bool, true, false, cond}
 use mathlib.Core.List.{List, [], _∷_}
 use mathlib.Core.Option.{Option, none, some}
@@ -9,7 +9,7 @@ use native.Mathlib.Nat.{not-suc-le-zero, le-of-suc-le-suc}
 use native.Mathlib.Omega.{arith}
 use lib.Dec.{ltb}
 use lib.ListN.{length, getD}
-use Rattle.lists.specs.Best.{Best, nothing, found, value, place, better, bestOf}
+use Rattle.lists.specs.Best.{Best, nothing, found, value, better, bestOf}
 
 pub getD-within : (l : List ℕ) (i c d : ℕ) → i < length l → getD l i c ≡ getD l i d
 getD-within [] i c d h = absurd (not-suc-le-zero h)

@@ -1,9 +1,11 @@
-// What planning, reading back and recounting share: whether a layer has the shape of one, where an entry of a sheet stands, the entry that
-// stands for none, and the least of some entries.
+// What planning, reading back and recounting share: which heights are starts, whether a layer has the shape of one, where an entry of a sheet
+// stands, the entry that stands for none, and the least of some entries.
 ghost use mathlib.Core.Path.{_≡_};
 ghost use Prim.Native.Nat.{_<_};
 ghost use lib.ListN.{getD};
 ghost use Rattle.paper.specs.Sheets.{entryIndex, missing};
+ghost use Rattle.plate.specs.Datum.{rowOf};
+ghost use Rattle.sequence.specs.Sequence.{starts};
 ghost use Rattle.sheets.specs.Layers.{isLayer};
 ghost use Rattle.sheets.specs.Entries.{leastFrom, leastEnd};
 ghost use Rattle.sheets.specs.Least.{IsLeast};
@@ -24,6 +26,27 @@ pub fn entry_index(most: u32, row: u32, m: u32) -> usize
     ensures { λ r. ⌜ r ≡ entryIndex most row m ⌝ }
 {
     row as usize * (most as usize + 1) + m as usize
+}
+
+// The row of a height, and 0 under the lowest.
+pub fn row_of(tmax: u32, h: u32) -> usize
+    ensures { λ r. ⌜ r ≡ rowOf tmax h ⌝ }
+{
+    let above = h as usize + tmax as usize;
+    if above < 33 {
+        return 0;
+    }
+    above - 33
+}
+
+// Whether a height is a start.
+pub fn is_start(tmax: usize, h: usize) -> bool
+    ensures { λ r. ⌜ r ≡ starts tmax h ⌝ }
+{
+    if 32 < h {
+        return false;
+    }
+    32 - h < tmax
 }
 
 // Whether a layer from row `start` of thickness t has the shape of one.

@@ -4,7 +4,7 @@
 use crate::lent::{same, Lent};
 use bench::library;
 use bench::make;
-use bench::plain::{self, Filled, Plate, Second, Sheets};
+use bench::plain::{self, Filled, Head, Plate, Sheets};
 use bench::random::Random;
 
 pub type Outcome = Result<u32, String>;
@@ -35,6 +35,12 @@ pub fn told(difference: Result<(), String>, number: u32, case: impl Fn() -> Stri
         Ok(()) => Ok(number),
         Err(difference) => Err(format!("{difference}\n  in {}", case())),
     }
+}
+
+/// For a printed case.
+pub fn head_text(head: Head) -> String {
+    let Head { height, set, columns } = head;
+    format!("height {height}, set {set:#x}, columns {columns}")
 }
 
 fn sizes(random: &mut Random) -> Outcome {
@@ -69,40 +75,34 @@ fn add_column(random: &mut Random) -> Outcome {
     let plate = make::plate(random, size);
     let mut table = make::table(random, plate, size);
     make::damage_table(random, plate, &mut table);
-    let (height, set) = make::named(random, plate);
+    let mut head = make::named_head(random, plate, table.head);
     let length = make::length(random, plate.cells());
     let mut expected = Lent::new(random, &table.cells, length);
     let column = make::handed_column(random, plate);
     let column = Lent::given(random, &column);
-    added(&mut expected.clone(), &mut expected, height, set, table.columns, &column)
+    added(&mut expected.clone(), &mut expected, &mut head, &column)
 }
 
-/// Adds to both tables and compares.
-pub fn added(
-    actual: &mut Lent<u32>,
-    expected: &mut Lent<u32>,
-    height: u32,
-    set: u32,
-    columns: u32,
-    column: &Lent<u16>,
-) -> Outcome {
+/// Adds to both tables and compares; where the column was added, the head is then the one that the library answered.
+pub fn added(actual: &mut Lent<u32>, expected: &mut Lent<u32>, head: &mut Head, column: &Lent<u16>) -> Outcome {
     let handed = column.clone();
-    let before = expected.clone();
-    let answer = library::as_tabled(plain::add_column(expected.part_mut(), height, set, columns, column.part()));
-    let library = library::add_column(actual.part_mut(), height, set, columns, handed.part());
+    let (before, head_before) = (expected.clone(), *head);
+    let answer = library::as_tabled(plain::add_column(expected.part_mut(), head_before, column.part()));
+    let library = library::add_column(actual.part_mut(), head_before, handed.part());
+    if library.number == 0 {
+        *head = library.head;
+    }
     let difference = same(answer, library)
         .and_then(|()| actual.agrees("table", expected))
         .and_then(|()| handed.agrees("column", column));
     told(difference, answer.number, || {
-        let (column, table) = (column.text(), before.text());
-        format!("height {height}, set {set:#x}, columns {columns}, column {column}, table {table}")
+        format!("{}, column {}, table {}", head_text(head_before), column.text(), before.text())
     })
 }
 
-type Joining = (
-    fn(&mut [u32], u32, u32, u32, Second) -> plain::Answer<u32>,
-    fn(&mut [u32], u32, u32, u32, Second) -> library::Tabled,
-);
+/// Joining or taking off, by plain and by the library.
+pub type Joining =
+    (fn(&mut [u32], Head, &[u32], Head) -> plain::Answer<Head>, fn(&mut [u32], Head, &[u32], Head) -> library::Tabled);
 
 fn join_tables(random: &mut Random) -> Outcome {
     let size = make::size(random);
@@ -118,17 +118,15 @@ fn take_off(random: &mut Random) -> Outcome {
     let mut first = make::table(random, plate, size);
     let second = make::table(random, plate, size);
     if !random.one_in(4) {
-        joined(plate, &mut first, &second);
+        joined(&mut first, &second);
     }
     two_tables(random, plate, first, second, (plain::take_off, library::take_off))
 }
 
 /// The second joined into the first, where that is not refused.
-fn joined(plate: Plate, first: &mut make::Table, second: &make::Table) {
-    let (height, set) = (plate.height as u32, plate.set);
-    let other = Second { cells: &second.cells, height, set, columns: second.columns };
-    if let Ok(sum) = plain::join_tables(&mut first.cells, height, set, first.columns, other) {
-        first.columns = sum;
+fn joined(first: &mut make::Table, second: &make::Table) {
+    if let Ok(both) = plain::join_tables(&mut first.cells, first.head, &second.cells, second.head) {
+        first.head = both;
     }
 }
 
@@ -141,25 +139,27 @@ fn two_tables(
 ) -> Outcome {
     make::damage_table(random, plate, &mut first);
     make::damage_table(random, plate, &mut second);
-    let (height, set) = make::named(random, plate);
-    let (other_height, other_set) = if random.one_in(2) { (height, set) } else { make::named(random, plate) };
+    let head = make::named_head(random, plate, first.head);
+    let other_head = if random.one_in(2) {
+        Head { columns: second.head.columns, ..head }
+    } else {
+        make::named_head(random, plate, second.head)
+    };
     let lengths = [make::length(random, plate.cells()), make::length(random, plate.cells())];
     let mut expected = Lent::new(random, &first.cells, lengths[0]);
     let mut actual = expected.clone();
     let other = Lent::new(random, &second.cells, lengths[1]);
     let handed = other.clone();
     let before = expected.clone();
-    let with = |cells| Second { cells, height: other_height, set: other_set, columns: second.columns };
-    let answer = library::as_tabled(calls.0(expected.part_mut(), height, set, first.columns, with(other.part())));
-    let library = calls.1(actual.part_mut(), height, set, first.columns, with(handed.part()));
+    let answer = library::as_tabled(calls.0(expected.part_mut(), head, other.part(), other_head));
+    let library = calls.1(actual.part_mut(), head, handed.part(), other_head);
     let difference = same(answer, library)
         .and_then(|()| actual.agrees("first table", &expected))
         .and_then(|()| handed.agrees("second table", &other));
     told(difference, answer.number, || {
-        let (first_text, second_text) = (before.text(), other.text());
-        let first_is = format!("height {height}, set {set:#x}, columns {}, table {first_text}", first.columns);
-        let columns = second.columns;
-        format!("{first_is}; height {other_height}, set {other_set:#x}, columns {columns}, table {second_text}")
+        let [first, second] = [(head, &before), (other_head, &other)]
+            .map(|(head, cells)| format!("{}, table {}", head_text(head), cells.text()));
+        format!("{first}; {second}")
     })
 }
 
@@ -201,31 +201,30 @@ fn plan(random: &mut Random) -> Outcome {
     let mut table = make::table(random, plate, size);
     let bound = make::bound(random, &table);
     make::damage_table(random, plate, &mut table);
-    let (height, set) = make::named(random, plate);
+    let head = make::named_head(random, plate, table.head);
     let length = make::length(random, plate.cells());
     let cells = Lent::new(random, &table.cells, length);
     let lengths = [plate.entries(), plate.entries(), plate.counts()].map(|stated| make::length(random, stated));
     let mut expected = LentSheets::random(random, lengths);
-    planned(&mut expected.clone(), &mut expected, &cells, (height, set, table.columns, bound))
+    planned(&mut expected.clone(), &mut expected, &cells, head, bound)
 }
 
-/// Plans into both and compares; the numbers are height, set, columns and bound.
+/// Plans into both and compares.
 pub fn planned(
     actual: &mut LentSheets,
     expected: &mut LentSheets,
     cells: &Lent<u32>,
-    numbers: (u32, u32, u32, u32),
+    head: Head,
+    bound: u32,
 ) -> Outcome {
-    let (height, set, columns, bound) = numbers;
     let handed = cells.clone();
-    let answer = library::as_reply(plain::plan(cells.part(), height, set, columns, bound, expected.parts()));
-    let library = library::plan(handed.part(), height, set, columns, bound, actual.parts());
+    let answer = library::as_reply(plain::plan(cells.part(), head, bound, expected.parts()));
+    let library = library::plan(handed.part(), head, bound, actual.parts());
     let difference =
         same(answer, library).and_then(|()| actual.agrees(expected)).and_then(|()| handed.agrees("table", cells));
     told(difference, answer.number, || {
         let lengths = (actual.errors.part().len(), actual.thicknesses.part().len(), actual.list.part().len());
-        let table = cells.text();
-        format!("height {height}, set {set:#x}, columns {columns}, bound {bound}, lent {lengths:?}, table {table}")
+        format!("{}, bound {bound}, lent {lengths:?}, table {}", head_text(head), cells.text())
     })
 }
 
@@ -272,26 +271,24 @@ fn recount(random: &mut Random) -> Outcome {
     if random.one_in(2) {
         make::damage_table(random, plate, &mut table);
     }
-    let (height, set) = make::named(random, plate);
+    let head = make::named_head(random, plate, table.head);
     let length = make::length(random, plate.cells());
     let cells = Lent::new(random, &table.cells, length);
     let sequence = make::sequence(random, plate);
     let sequence = Lent::given(random, &sequence);
-    recounted(&cells, (height, set, table.columns, bound), &sequence)
+    recounted(&cells, head, bound, &sequence)
 }
 
-/// Recounts by both and compares; the numbers are height, set, columns and bound.
-pub fn recounted(cells: &Lent<u32>, numbers: (u32, u32, u32, u32), sequence: &Lent<i32>) -> Outcome {
-    let (height, set, columns, bound) = numbers;
+/// Recounts by both and compares.
+pub fn recounted(cells: &Lent<u32>, head: Head, bound: u32, sequence: &Lent<i32>) -> Outcome {
     let (handed_cells, handed) = (cells.clone(), sequence.clone());
-    let answer = library::as_reply(plain::recount(cells.part(), height, set, columns, bound, sequence.part()));
-    let library = library::recount(handed_cells.part(), height, set, columns, bound, handed.part());
+    let answer = library::as_reply(plain::recount(cells.part(), head, bound, sequence.part()));
+    let library = library::recount(handed_cells.part(), head, bound, handed.part());
     let difference = same(answer, library)
         .and_then(|()| handed_cells.agrees("table", cells))
         .and_then(|()| handed.agrees("sequence", sequence));
     told(difference, answer.number, || {
-        let (table, sequence) = (cells.text(), sequence.text());
-        format!("height {height}, set {set:#x}, columns {columns}, bound {bound}, sequence {sequence}, table {table}")
+        format!("{}, bound {bound}, sequence {}, table {}", head_text(head), sequence.text(), cells.text())
     })
 }
 

@@ -39,7 +39,7 @@ fn columns(random: &mut Random, note: &mut impl FnMut(Outcome) -> Result<(), Str
         for list in lists {
             let column = Lent::given(random, &list);
             for columns in [0, 1, 999_999, 1_000_000, 1_000_001, u32::MAX] {
-                note(added(&mut table.clone(), &mut table.clone(), height, u32::MAX, columns, &column))?;
+                note(added(&mut table.clone(), &mut table.clone(), &mut plate.head(columns), &column))?;
             }
             for start in -33..=height as i32 + 32 {
                 for thickness in [0, 1, 2, 31, 32, 33] {
@@ -61,7 +61,7 @@ fn counts(random: &mut Random, note: &mut impl FnMut(Outcome) -> Result<(), Stri
         for bound in [u32::MAX, 0] {
             let mut expected = LentSheets::random(random, [plate.entries(), plate.entries(), plate.counts()]);
             let mut actual = expected.clone();
-            note(planned(&mut actual, &mut expected, &cells, (height, set, table.columns, bound)))?;
+            note(planned(&mut actual, &mut expected, &cells, table.head, bound))?;
             for count in 0..=plate.counts() + 1 {
                 let out = Lent::random(random, count + 1);
                 note(read(&actual, &expected, &out, height, set, count as u32))?;

@@ -1,5 +1,5 @@
 -- `check_plan` meets its contract: the refusals of the settings, and then those of `check_rest`. Assumes nothing.
-use mathlib.Core.Path.{_≡_, refl, sym, ap, _∙_}
+use mathlib.Core.Path.{refl, sym, ap, _∙_}
 use borrow.Author.Needs.{needs}
 use Rattle.plate.specs.Settings.{saidMade}
 use Rattle.plate.specs.Head.{headChecks}

@@ -1,10 +1,8 @@
 -- `check_rest` meets its contract: its tests are the checks 3, in their order, and 7 and 6 are the table's own. Assumes nothing.
-use mathlib.Core.Path.{_≡_, ap}
+use mathlib.Core.Path.{ap}
 use native.Mathlib.Omega.{arith}
 use borrow.Author.Needs.{needs}
-use Prim.Native.Nat.{_≤_}
-use lib.ListN.{length}
-use Rattle.plate.specs.Head.{Held, heldIn, cellsOf}
+use Rattle.plate.specs.Head.{Held, heldIn}
 use Rattle.plate.specs.declared.settings.Made.the-variants.{Bad}
 use Rattle.plate.proofs.Calls.{judges-bad}
 use Rattle.plate.proofs.Heads.{cells-for}

@@ -14,7 +14,7 @@ use Rattle.plate.specs.declared.settings.Made.{Made}
 use Rattle.plate.specs.declared.settings.Made.the-variants.{Bad}
 use Rattle.plate.specs.declared.settings.Settings.{Settings}
 use Rattle.plate.proofs.Calls.{judged-bad, works}
-use Rattle.plan.specs.Plan.{Sheets, sheetsOf, planChecks, planned, planning, Plannable}
+use Rattle.plan.specs.Plan.{Sheets, sheetsOf, planChecks, planned, planning}
 use Rattle.plan.proofs.Passed.{counts-for, plan-passed}
 use Rattle.plan.proofs.plan.Statement.{statement}
 use Rattle.plan.proofs.plan.Tie as tie

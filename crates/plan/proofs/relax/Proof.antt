@@ -3,7 +3,6 @@
 use Prim.Native.Nat.{_+_, _≤_}
 use mathlib.Core.Path.{ap}
 use native.Mathlib.Omega.{arith}
-use borrow.Author.Needs.{needs}
 use Rattle.plan.proofs.Relaxing.{Relaxing, first-few, first-end, placed, relaxed}
 use Rattle.plan.proofs.relax.Statement.{statement}
 use Rattle.plan.proofs.relax.Tie as tie

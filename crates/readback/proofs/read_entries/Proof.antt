@@ -1,21 +1,13 @@
 -- `read_entries` meets its contract: 11 where the least entry is the mark for none, 12 where the walk down from its height has a fault, and
 -- else that entry, with the walk written. Assumes nothing.
-use mathlib.Core.Path.{_≡_, ap, subst}
+use mathlib.Core.Path.{_≡_, ap}
 use native.Mathlib.Omega.{arith}
 use borrow.Author.Needs.{needs}
 use lib.ListN.{length}
-use lib.IntN.{ℤ}
-use mathlib.Core.List.{List}
 use Prim.Native.Nat.{_+_, _≤_}
 use Rattle.paper.specs.Sheets.{missing}
-use Rattle.plate.specs.Call.{Does}
-use Rattle.plate.specs.Refusal.{told}
-use Rattle.plate.specs.declared.refusal.Answer.{Answer}
-use Rattle.plate.specs.declared.refusal.Answer.the-variants.{Refused}
-use Rattle.plate.specs.declared.refusal.Refusal.{Refusal}
 use Rattle.sequence.specs.Sequence.{lowestEnd}
 use Rattle.sheets.proofs.Places.{entries-is}
-use Rattle.readback.specs.Reading.{reading}
 use Rattle.readback.specs.Walking.{faultOf, InSheet}
 use Rattle.readback.proofs.Ends as ends
 use Rattle.readback.proofs.Walks.{noted-under}

@@ -1,14 +1,16 @@
 -- `walk_down` meets its contract. The loop's invariant: what is left of the walk ends as the whole does, its boundaries under those that are
 -- noted are those of the whole, and the height is still one of the sheet's. Each way out is one step of the definitions. Assumes nothing.
-use mathlib.Core.Path.{_≡_, refl, sym, _∙_}
+use mathlib.Core.Path.{_≡_, refl, sym, ap, _∙_}
 use mathlib.Core.Bool.{true}
 use mathlib.Core.List.{[]}
-use Prim.Native.Nat.{_+_, _-_, _≤_, _<_}
+use Prim.Native.Nat.{ℕ, _+_, _-_, _≤_, _<_}
 use native.Mathlib.Omega.{arith}
 use borrow.Author.Needs.{needs}
 use borrow.Author.Tests.{not-true, not-false}
 use lib.ListN.{length, length-set}
+use Rattle.paper.specs.Layer.{tmax}
 use Rattle.sequence.specs.Rules.{shape}
+use Rattle.sequence.specs.Sequence.{starts}
 use Rattle.sequence.specs.Sheets.{entry, faultUnder, boundariesUnder}
 use Rattle.sequence.proofs.Layers.{shape-from}
 use Rattle.readback.specs.Walking.{notedFrom}
@@ -62,17 +64,21 @@ loop-again c =
       noted-more _ (s c .args .n) (l c .loop .k) (l c .loop .h) _ (l c .loop .heights) (omega arith) (omega arith) (omega arith) t ∙ l c .loop .inv .5,
     )
 
+-- past the last layer
+start-is : (c : tie.After-is-start Inv-loop μ-loop) → c .is-start .result ≡ starts (tmax (c .before .before .before .before .before .args .s .members)) (c .before .before .loop .h)
+start-is c = let s = c .before .before .before .before .before in c .is-start .ensures ∙ ap (λ (t : ℕ). starts t (c .before .before .loop .h)) (s .pre .0 .greatest)
+
 returns-2 : tie.Need-returns-2 Inv-loop μ-loop
 returns-2 c =
-    let l = c .before .before in
-    faulted _ _ _ _ _ _ _ (l .loop .inv .4 ∙ fault-end _ _ _ (l .loop .k) (l .loop .h) (omega arith) (omega arith))
+    let l = c .before .before .before in
+    faulted _ _ _ _ _ _ _ (l .loop .inv .4 ∙ fault-end _ _ _ (l .loop .k) (l .loop .h) (omega arith) (sym (start-is (c .before)) ∙ not-true _ (c .if2 .taken)))
 
 returns-3 : tie.Need-returns-3 Inv-loop μ-loop
 returns-3 c =
-    let l = c .before .before in
+    let l = c .before .before .before in
     let s = l .before .before .before in
     record {
-      ends = sym (l .loop .inv .4 ∙ fine-end _ _ _ (l .loop .k) (l .loop .h) (omega arith) (omega (arith, s .pre .0 .greatest)) (omega arith));
+      ends = sym (l .loop .inv .4 ∙ fine-end _ _ _ (l .loop .k) (l .loop .h) (omega arith) (sym (start-is (c .before)) ∙ not-false _ (c .if2 .left)));
       notes = λ q. noted-last _ (s .args .n) (l .loop .k) (l .loop .h) (l .loop .heights) (omega arith) (omega arith) ∙ l .loop .inv .5;
     }
 
@@ -94,6 +100,7 @@ walk-down-spec =
     (λ c. omega arith)
     (λ c. omega arith)
     loop-again
+    (λ c κs. search needs)
     (λ c. search needs)
     returns-2
     (λ c. omega arith)

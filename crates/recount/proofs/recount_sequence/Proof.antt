@@ -1,12 +1,16 @@
 -- `recount_sequence` meets its contract: 13 at 0 for fewer than two boundaries or a first that is no start, and then the layers.
 -- Assumes nothing.
-use mathlib.Core.Path.{_≡_, ap, _∙_}
+use mathlib.Core.Path.{_≡_, sym, ap, ap₂, _∙_}
 use native.Mathlib.Omega.{arith}
 use borrow.Author.Needs.{needs}
+use borrow.Author.Tests.{not-true, not-false}
+use Rattle.paper.specs.Layer.{tmax}
+use Rattle.paper.specs.Sequence.{_!_}
+use Rattle.plate.specs.Datum.{datum}
 use Rattle.plate.specs.Refusal.{told}
 use Rattle.plate.specs.declared.refusal.Answer.the-variants.{Refused}
 use Rattle.plate.specs.declared.refusal.Refusal.{Refusal}
-use Rattle.sequence.proofs.Layers.{start-in, start-low, start-high}
+use Rattle.sequence.specs.Sequence.{starts}
 use Rattle.recount.proofs.Answers.{too-few, out-start}
 use Rattle.recount.proofs.recount_sequence.Statement.{statement}
 use Rattle.recount.proofs.recount_sequence.Tie as tie
@@ -14,23 +18,19 @@ use Rattle.recount.proofs.recount_sequence.Tie as tie
 returns : tie.Need-returns
 returns c = ap (λ (r : Refusal). told (Refused r)) (c .refusal-at .ensures) ∙ too-few _ _ _ _ _ (omega arith)
 
+-- whether the first is a start
+start-is : (c : tie.After-is-start) → c .is-start .result ≡ starts (tmax (c .before .before .before .before .args .s .members)) (datum (c .before .before .before .before .args .sequence .now ! 0))
+start-is c = let s = c .before .before .before .before in c .is-start .ensures ∙ ap₂ starts (s .pre .greatest) (c .before .datum-at .ensures)
+
 returns-2 : tie.Need-returns-2
 returns-2 c =
-    ap (λ (r : Refusal). told (Refused r)) (c .refusal-at2 .ensures)
-    ∙ out-start _ _ _ _ _ (omega arith) (start-high _ _ (omega (arith, c .before .before .datum-at .ensures)))
-
-returns-3 : tie.Need-returns-3
-returns-3 c =
-    let d = c .before .before .before .before in
-    let s = d .before .before .before in
-    ap (λ (r : Refusal). told (Refused r)) (c .refusal-at3 .ensures)
-    ∙ out-start _ _ _ _ _ (omega arith) (start-low _ _ (omega (arith, d .datum-at .ensures, s .pre .greatest)))
+    let i = c .before .before in
+    ap (λ (r : Refusal). told (Refused r)) (c .refusal-at2 .ensures) ∙ out-start _ _ _ _ _ (omega arith) (sym (start-is i) ∙ not-true _ (c .before .if2 .taken))
 
 recount-layers-requires : tie.Need-recount-layers-requires
 recount-layers-requires c κs =
-    let d = c .before .before .before in
-    let s = d .before .before .before in
-    (s .pre, record { layered = omega arith; starts-in = start-in _ _ (omega (arith, d .datum-at .ensures, s .pre .greatest)) (omega (arith, d .datum-at .ensures)) })
+    let i = c .before in
+    (i .before .before .before .before .pre, record { layered = omega arith; starts-in = sym (start-is i) ∙ not-false _ (c .if2 .left) })
 
 pub recount-sequence-spec : {M : Type 1} → statement M
 recount-sequence-spec =
@@ -40,9 +40,7 @@ recount-sequence-spec =
     returns
     (λ c κs. search needs)
     (λ c κs. search needs)
-    returns-2
-    (λ c. search needs)
     (λ c κs. search needs)
-    returns-3
+    returns-2
     recount-layers-requires
     (λ c. search needs))

@@ -8,4 +8,4 @@ use Rattle.shagorent.proofs.bad_reply.Statement.{statement}
 use Rattle.shagorent.proofs.bad_reply.Tie as tie
 
 pub bad-reply-spec : {M : Type 1} → statement M
-bad-reply-spec = tie.close (tie.spec (λ c κs. search needs) (λ c. ap (λ (n : ℕ). reply (refused n _)) (c .number .ensures)))
+bad-reply-spec = tie.close (tie.spec (λ c κs. search needs) (λ c. ap (λ (n : ℕ). reply (refused n (c .before .args .bad .place))) (c .number .ensures)))

@@ -11,5 +11,6 @@ job-reply-spec =
     (λ c. search needs)
     (λ c. search needs)
     (λ c κs. search needs)
-    (λ c. job-done (c .before .before .before .loaded .given .0 .0) _ (c .before .before .before .loaded .given .1))
-    (λ c. job-refused _ (c .before .before .loaded2 .given .0 .0) (c .number .ensures) _ (c .before .before .loaded2 .given .1)))
+    (λ c κs. search needs)
+    (λ c. job-done (c .before .before .loaded .given .0 .0) _ (c .before .before .loaded .given .1))
+    (λ c. job-refused _ (c .before .before .before .loaded2 .given .0 .0) (c .before .number .ensures) _ (c .cleared .ensures) _ (c .before .before .before .loaded2 .given .1)))

@@ -1,7 +1,7 @@
 -- `shagorent_recount` meets its contract: the reply is what `recount` tells. Assumes nothing.
 use borrow.Author.Needs.{needs}
-use mathlib.Core.Path.{ap, _∙_}
 use Rattle.shagorent.specs.Replies.{reply}
+use Rattle.shagorent.proofs.Replies.{replies}
 use Rattle.shagorent.proofs.shagorent_recount.Statement.{statement}
 use Rattle.shagorent.proofs.shagorent_recount.Tie as tie
 
@@ -11,4 +11,4 @@ shagorent-recount-spec =
     (tie.spec
     (λ c κs. search needs)
     (λ c κs. search needs)
-    (λ c. c .reply-of .ensures ∙ ap reply (c .before .recount .ensures)))
+    (λ c. replies reply _ (c .before .recount .ensures) _ (c .reply-of .ensures)))

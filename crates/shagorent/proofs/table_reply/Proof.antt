@@ -11,5 +11,6 @@ table-reply-spec =
     (λ c. search needs)
     (λ c. search needs)
     (λ c κs. search needs)
+    (λ c κs. search needs)
     (λ c. table-done (c .before .tabled .given .0 .0) _ (c .before .tabled .given .1))
-    (λ c. table-refused _ (c .before .before .tabled2 .given .0 .0) (c .number .ensures) _ (c .before .before .tabled2 .given .1)))
+    (λ c. table-refused _ (c .before .before .before .tabled2 .given .0 .0) (c .before .number .ensures) _ (c .cleared .ensures) _ (c .before .before .before .tabled2 .given .1)))

@@ -1,5 +1,5 @@
 -- `is_layer` meets its contract: its tests are those of `isLayer`, one after the other. Assumes nothing.
-use Prim.Native.Nat.{ℕ, _+_, _-_, _≤_}
+use Prim.Native.Nat.{ℕ, _-_, _≤_}
 use mathlib.Core.Path.{_≡_, sym, _∙_}
 use mathlib.Core.Bool.{true}
 use native.Mathlib.Decide.{decLe}

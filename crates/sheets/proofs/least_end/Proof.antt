@@ -1,16 +1,15 @@
 -- `least_end` meets its contract: of no entries there is none, and from the first end height on the entries of a count stand a row apart.
 -- Assumes nothing.
 use Prim.Native.Nat.{ℕ, _+_, _-_, _≤_}
-use mathlib.Core.Path.{_≡_, refl, ap, subst}
+use mathlib.Core.Path.{_≡_, refl, subst}
 use mathlib.Core.List.{List}
 use native.Mathlib.Nat.{mul-le-mul}
 use native.Mathlib.Omega.{arith}
 use borrow.Author.Needs.{needs}
-use Rattle.lists.specs.Best.{bestOf, nothing}
+use Rattle.lists.specs.Best.{bestOf}
 use Rattle.paper.specs.Sheets.{missing}
 use Rattle.sheets.specs.Entries.{leastFrom, leastEnd}
 use Rattle.sheets.specs.Least.{IsLeast}
-use Rattle.sheets.specs.declared.Least.{Least}
 use Rattle.sheets.proofs.least_end.Statement.{statement}
 use Rattle.sheets.proofs.least_end.Tie as tie
 
