@@ -430,14 +430,18 @@ body past the input; an end count unequal to the columns; bytes after the end re
 
 @dataclasses.dataclass(frozen=True)
 class State:
-    """The reading state: whether settings were read, whether the end was, the columns so far, and what the settings ask for."""
+    """The reading state: whether settings were read, whether the end was, what goes with the columns so far, and the bound."""
 
     begun: bool = False
     ended: bool = False
-    columns: int = 0
-    height: int = 0
-    members: int = 0
+    head: Head = Head(0, 0)
     bound: int = 0
+
+    def with_settings(self, height, members, bound):
+        return dataclasses.replace(self, begun=True, head=dataclasses.replace(self.head, height=height, members=members), bound=bound)
+
+    def with_column(self):
+        return dataclasses.replace(self, head=self.head.with_column())
 
 
 def is_kind_allowed(kind, state):
@@ -483,11 +487,11 @@ def record_checks(data, at, state):
         yield "1", 1, holds(check_height, height)
         yield "2", 2, holds(check_members, members)
     if kind == 2:
-        yield "7", 7, Head(state.height, state.members, state.columns).is_full()
+        yield "7", 7, state.head.is_full()
         yield "4", 4, holds(check_count, boundaries_in(body))
-        yield "5", 5, holds(check_order, boundaries_in(body), state.height)
+        yield "5", 5, holds(check_order, boundaries_in(body), state.head.height)
     if kind == 3:
-        yield "unequal", FAULTS["unequal"], struct.unpack_from("<I", body.ljust(4, b"\0"))[0] != state.columns
+        yield "unequal", FAULTS["unequal"], struct.unpack_from("<I", body.ljust(4, b"\0"))[0] != state.head.columns
 
 
 def holding(data, at, state):
@@ -513,20 +517,19 @@ def read_record(data, at, state):
     if state.ended:
         if at < len(data):
             return Step("refused", (FAULTS["tail"], at), at, state)
-        return Step("end", (state.columns,), at, state)
+        return Step("end", (state.head.columns,), at, state)
     for _, number, is_so in record_checks(data, at, state):
         if is_so:
             return Step("refused", (number, at), at, state)
     length, kind = struct.unpack_from("<HH", data, at)
     body, after = data[at + 4:at + 4 + length], at + 4 + length
     if kind == 1:
-        height, members, bound = struct.unpack("<HII", body)
-        asked = dict(height=height, members=members, bound=bound)
-        return Step("settings", tuple(asked.values()), after, dataclasses.replace(state, begun=True, **asked))
+        asked = struct.unpack("<HII", body)
+        return Step("settings", asked, after, state.with_settings(*asked))
     if kind == 2:
-        return Step("column", (at + 4, length // 2), after, dataclasses.replace(state, columns=state.columns + 1))
+        return Step("column", (at + 4, length // 2), after, state.with_column())
     if kind == 3:
-        return Step("end", (state.columns,), after, dataclasses.replace(state, ended=True))
+        return Step("end", (state.head.columns,), after, dataclasses.replace(state, ended=True))
     return Step("remark", (), after, state)
 
 
@@ -558,10 +561,10 @@ def read_job(data, most, table):
     """A job read into a lent table: the file's refusals, then 3, since only its settings say how long the table is. Answers what goes with the
     table, and the bound."""
     state, columns = read_file(data, most)
-    plate = plate_of(state.height, state.members)
+    plate = plate_of(*state.head.settings())
     check_room(1, table, len(plate.cells))
     table[:len(plate.cells)] = table_of(plate, columns)
-    return Head(state.height, state.members, len(columns)), state.bound
+    return state.head, state.bound
 
 
 # ---- The planning program
@@ -588,6 +591,5 @@ def program_lines(data):
         state, columns = read_file(data, MOST_ENTRIES)
     except Refused as refusal:
         return [str(refusal)]
-    plate = plate_of(state.height, state.members)
-    head = Head(state.height, state.members, len(columns))
-    return list(planned_lines(plate, table_of(plate, columns), head, state.bound))
+    plate = plate_of(*state.head.settings())
+    return list(planned_lines(plate, table_of(plate, columns), state.head, state.bound))

@@ -105,12 +105,13 @@ pub(crate) fn number_from(line: &[u8], at: usize) -> Number {
     let mut i = at;
     while i < line.len() {
         number = number.with(line[i]);
-        number.after = i;
         if number.over {
+            number.after = i;
             return number;
         }
         i += 1;
     }
+    number.after = line.len();
     number
 }
 

@@ -8,7 +8,7 @@ mod memory;
 mod show;
 
 fn main() {
-    let mut text = [0u8; 262144];
+    let mut text = [0u8; 524288];
     let size = io::read_full(0, &mut text);
     let mut table = [0u32; 18400];
     let mut errors = [0u64; 330700];

@@ -104,7 +104,7 @@ struct Laying {
 }
 
 // By the numbers that follow a character of the line.
-fn laying(line: &[u8], character: u8) -> Laying {
+fn laying_in(line: &[u8], character: u8) -> Laying {
     let from = number_from(line, find(line, 0, character) + 1);
     let to = number_from(line, from.after);
     let base = number_from(line, to.after);
@@ -126,7 +126,7 @@ fn laid(line: &[u8], at: usize, base: u64, i: usize) -> Number {
 }
 
 pub(crate) fn lay8(buffer: &mut [u8], line: &[u8], character: u8) {
-    let laying = laying(line, character);
+    let laying = laying_in(line, character);
     let to = length(laying.to, buffer.len());
     let mut i = laying.from as usize;
     let mut at = laying.at;
@@ -139,7 +139,7 @@ pub(crate) fn lay8(buffer: &mut [u8], line: &[u8], character: u8) {
 }
 
 pub(crate) fn lay16(buffer: &mut [u16], line: &[u8], character: u8) {
-    let laying = laying(line, character);
+    let laying = laying_in(line, character);
     let to = length(laying.to, buffer.len());
     let mut i = laying.from as usize;
     let mut at = laying.at;
@@ -152,7 +152,7 @@ pub(crate) fn lay16(buffer: &mut [u16], line: &[u8], character: u8) {
 }
 
 pub(crate) fn lay32(buffer: &mut [u32], line: &[u8], character: u8) {
-    let laying = laying(line, character);
+    let laying = laying_in(line, character);
     let to = length(laying.to, buffer.len());
     let mut i = laying.from as usize;
     let mut at = laying.at;
@@ -165,7 +165,7 @@ pub(crate) fn lay32(buffer: &mut [u32], line: &[u8], character: u8) {
 }
 
 pub(crate) fn lay64(buffer: &mut [u64], line: &[u8], character: u8) {
-    let laying = laying(line, character);
+    let laying = laying_in(line, character);
     let to = length(laying.to, buffer.len());
     let mut i = laying.from as usize;
     let mut at = laying.at;
@@ -178,7 +178,7 @@ pub(crate) fn lay64(buffer: &mut [u64], line: &[u8], character: u8) {
 }
 
 pub(crate) fn lay_heights(buffer: &mut [i32], line: &[u8], character: u8) {
-    let laying = laying(line, character);
+    let laying = laying_in(line, character);
     let to = length(laying.to, buffer.len());
     let mut i = laying.from as usize;
     let mut at = laying.at;
