@@ -1,6 +1,5 @@
 pub mod Sums
 pub mod Rows
-pub mod Putting
 pub mod Relaxing
 pub mod Listing
 pub mod Passed

@@ -3,13 +3,16 @@
 -- thinner than tmin (`many`), so there is no sequence and the entry stays as it is (`out`). Assumes nothing.
 use Prim.Native.Nat.{ℕ, _+_, _-_, _*_, _≤_, _<_}
 use mathlib.Core.Path.{_≡_, refl, sym, ap, _∙_}
+use mathlib.Core.Bool.{true, cond}
 use mathlib.Core.List.{List}
 use mathlib.Core.Logic.{_⊎_, inl, inr, ⊎-elim}
 use mathlib.Core.Option.{Option, none, some}
 use native.Mathlib.Nat.{mul-le-mul-left, mul-le-mul-right}
 use native.Mathlib.Decide.{decLt}
 use native.Mathlib.Omega.{arith}
-use lib.ListN.{getD}
+use borrow.Author.Tests.{lt-ltb, le-ltb}
+use lib.Dec.{ltb}
+use lib.ListN.{length, getD}
 use Rattle.lists.specs.Best.{Best, value, place}
 use Rattle.lists.proofs.Spans.{span-within}
 use Rattle.paper.specs.Sheets.{rowStart, entryIndex, missing}
@@ -19,18 +22,28 @@ use Rattle.plate.specs.Settings.{Sound}
 use Rattle.plate.specs.declared.settings.Settings.{Settings}
 use Rattle.sequence.specs.Sequence.{Rules}
 use Rattle.sequence.specs.Least.{plus, via, bestTo, least}
-use Rattle.sequence.specs.Sheets.{mark, unmark}
+use Rattle.sequence.specs.Sheets.{mark}
 use Rattle.sequence.proofs.BestTo.{kept, taken, left}
 use Rattle.sequence.proofs.Bounds.{least-few, least-many}
-use Rattle.sequence.proofs.Marks.{Small, unmark-mark}
+use Rattle.sequence.proofs.Marks.{Small}
 use Rattle.table.specs.Cells.{cellFrom}
 use Rattle.sheets.proofs.Places.{row-in}
+use Rattle.putting.specs.Putting.{sumOrNone, sumAt, betterError, betterThickness, PutOn, fits, PutAll}
+use Rattle.putting.proofs.Putting.{error-less, error-keep, thickness-less, thickness-keep, room-yes}
 use Rattle.plan.specs.Planning.{greatestError, Ready, planRules, tableRules}
-use Rattle.plan.specs.Putting.{sumAt, betterError, betterThickness, PutOn, Placed}
 use Rattle.plan.specs.Rows.{errorTo, thicknessTo, RowTo, Under, Permitted}
-use Rattle.plan.proofs.Putting.{error-less, error-keep, thickness-less, thickness-keep}
-use Rattle.plan.proofs.Sums.{layer-thick, least-small, sum-most, via-small}
+use Rattle.plan.proofs.Sums.{layer-thick, sum-most, via-small}
 use Rattle.plan.proofs.Rows.{via-permitted}
+
+-- an entry with a layer's error more, where that stays below the mark
+sum-mark : (o : Option ℕ) (cell : ℕ) → ((e : ℕ) → o ≡ some e → e ≤ greatestError) → cell < 4294967296 → sumOrNone (mark o) cell ≡ mark (plus cell o)
+unfolding sumOrNone
+sum-mark none cell f u = go (decLt (missing - cell) missing)
+  where
+    go : Dec (missing - cell < missing) → cond (ltb (missing - cell) missing) missing (missing + cell) ≡ missing
+    go (yes l) = simp (lt-ltb (missing - cell) missing l)
+    go (no l) = simp (le-ltb (missing - cell) missing (omega arith)) (omega arith)
+sum-mark (some e) cell f u = simp (le-ltb (missing - cell) e (omega (arith, f e refl)))
 
 -- so many layers of tmax fit under the lowest start of row q, so `first` is one of the counts
 pub first-few : (s : Settings) → Sound s → (q first : ℕ) → q ≤ s .rows → first * s .tmax ≤ q - s .tmax → first ≤ s .counts
@@ -49,6 +62,7 @@ pub record Relaxing (table : List ℕ) (bound q t : ℕ) (E F : List ℕ) (first
   -- where the entries of the first count stand, that the layer starts from and that it ends at
   pub from-is : from ≡ entryIndex (s .counts) (q - t) first
   pub to-is : to ≡ entryIndex (s .counts) q first + 1
+  pub cell-fits : cell < 4294967296
   pub cell-is : cell ≡ cellFrom (s .members) table (atRow (s .tmax) (q - t)) t
 
 module _ {table : List ℕ} {bound q t : ℕ} {E F : List ℕ} {first end from to cell : ℕ} {s : Settings} (r : Relaxing table bound q t E F first end from to cell s) where
@@ -107,25 +121,18 @@ module _ {table : List ℕ} {bound q t : ℕ} {E F : List ℕ} {first end from t
   unfolding thicknessTo
   thicknesses-right i l e = ap place e ∙ sym (r .row .thicknesses-are .inside i l)
 
-  -- what is read in the start row is none or far below the mark
+  -- what is read in the start row is none or far below the mark, so the sum is the candidate
   module _ (m : ℕ) (l : m < end - first) where
     read : getD E (from + m) 0 ≡ mark (least p (first + m) low)
     read =
         let e : from + m ≡ entryIndex (s .counts) (q - t) (first + m) = omega (arith, r .from-is) in
         ap (λ (i : ℕ). getD E i 0) e ∙ r .under .filled (q - t) (first + m) (omega (arith, r .permitted .thick, r .permitted .above)) (omega (arith, r .end-few))
 
-    read-few : (getD E (from + m) 0 ≡ missing → ⊥) → getD E (from + m) 0 ≤ greatestError
-    read-few n = rw read (go (least p (first + m) low) refl (λ e. n (read ∙ e)))
-      where
-        go : (o : Option ℕ) → least p (first + m) low ≡ o → (mark o ≡ missing → ⊥) → mark o ≤ greatestError
-        go none e k = absurd (k refl)
-        go (some x) e k = omega (arith, sum-most s bound table (r .ready) (first + m) low x e, r .end-few, r .ready .sound .few-counts)
-
     sum-is : sumAt E cell (from + m) ≡ mark (via p (λ g. least p (first + m) g) high t)
-    unfolding sumAt
     sum-is =
-        let e = unmark-mark (least p (first + m) low) (least-small s bound table (r .ready) (first + m) low (omega (arith, r .end-few))) in
-        ap (λ (x : ℕ). mark (plus cell (unmark x))) read ∙ ap (λ (o : Option ℕ). mark (plus cell o)) e ∙ ap mark (sym (via-is (first + m)))
+        ap (λ (x : ℕ). sumOrNone x cell) read
+        ∙ sum-mark (least p (first + m) low) cell (λ e q. omega (arith, sum-most s bound table (r .ready) (first + m) low e q, r .end-few, r .ready .sound .few-counts)) (r .cell-fits)
+        ∙ ap mark (sym (via-is (first + m)))
 
     -- and in this row, the entry by last layers of less than t
     old : getD E (to + m) 0 ≡ mark (value (bestTo p (first + m + 1) high (t - 1)))
@@ -153,19 +160,15 @@ module _ {table : List ℕ} {bound q t : ℕ} {E F : List ℕ} {first end from t
         )
 
   -- the places of the counts
-  pub placed : Placed from to (end - first) E F
-  placed =
+  pub room : fits from to (end - first) (length E) (length F) ≡ true
+  room =
       let i = row-in s (r .ready .sound) q (s .counts) (r .under .row) (omega arith) in
-      let d : (q - t + 1) * (s .counts + 1) ≤ rowStart (s .counts) q = mul-le-mul-right (s .counts + 1) (omega (arith, r .permitted .thick, r .permitted .above)) in
-      record {
-        apart = omega (arith, r .end-few, first-end, r .from-is, r .to-is);
-        errors-long = omega (arith, r .end-few, first-end, r .under .errors-whole, r .to-is);
-        thicknesses-long = omega (arith, r .end-few, first-end, r .under .thicknesses-whole, r .to-is);
-        few = read-few;
-      }
+      let d : (q - t + 1) * (s .counts + 1) ≤ q * (s .counts + 1) = mul-le-mul-right (s .counts + 1) (omega (arith, r .permitted .thick, r .permitted .above)) in
+      room-yes from to (end - first) (length E) (length F) (omega (arith, r .end-few, first-end, r .from-is, r .to-is))
+      (omega (arith, r .end-few, first-end, r .under .errors-whole, r .to-is)) (omega (arith, r .end-few, first-end, r .under .thicknesses-whole, r .to-is))
 
-  pub relaxed : {G H : List ℕ} → PutOn from to cell t (end - first) E F G H → RowTo s p q t (s .counts + 1) E F G H
-  relaxed o = record {
+  pub relaxed : {G H : List ℕ} → PutAll from to cell t (end - first) E F G H → RowTo s p q t (s .counts + 1) E F G H
+  relaxed {G} {H} a = record {
     errors-are =
         span-within (s .counts + 1) (λ m x. errorTo s p q t m) (o .errors-are) (omega (arith, r .to-is)) (omega (arith, r .end-few, first-end, r .to-is))
         (λ m a b. errors-right m a (same m a b))
@@ -176,6 +179,9 @@ module _ {table : List ℕ} {bound q t : ℕ} {E F : List ℕ} {first end from t
         (λ m a. ap (thicknessTo s p q t) (index m) ∙ inside m a (decLt _ _) .1);
   }
     where
+      o : PutOn from to cell t (end - first) E F G H
+      o = a .put room
+
       index : (m : ℕ) → to - rowStart (s .counts) q + m ≡ first + m + 1
       index m = omega (arith, r .to-is)
 

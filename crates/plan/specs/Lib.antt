@@ -1,4 +1,3 @@
 pub mod Planning
-pub mod Putting
 pub mod Rows
 pub mod Plan

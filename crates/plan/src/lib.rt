@@ -9,14 +9,11 @@ ghost use Rattle.plate.specs.Datum.{atRow};
 ghost use Rattle.plate.specs.Head.{heldIn, SettingsFor};
 ghost use Rattle.plate.specs.Refusal.{told};
 ghost use Rattle.plate.specs.Settings.{Sound, Judges};
-ghost use Rattle.sequence.specs.Least.{plus};
-ghost use Rattle.sequence.specs.Sheets.{mark, unmark};
 ghost use Rattle.table.specs.Cells.{cellFrom};
 ghost use Rattle.sheets.specs.Entries.{leastEnd};
 ghost use Rattle.sheets.specs.Least.{IsLeast};
 ghost use Rattle.plan.specs.Plan.{planRest, planChecks, planning, sheetsIn};
-ghost use Rattle.plan.specs.Planning.{greatestError, Ready, tableRules, plannedErrors, plannedThicknesses, plannedList};
-ghost use Rattle.plan.specs.Putting.{Placed, PutOn};
+ghost use Rattle.plan.specs.Planning.{Ready, tableRules, plannedErrors, plannedThicknesses, plannedList};
 ghost use Rattle.plan.specs.Rows.{RowTo, Under, Permitted, Planned};
 use plate::head::Head;
 use plate::refusal::Answer;
@@ -24,6 +21,7 @@ use plate::refusal::Reason;
 use plate::refusal::refusal_at;
 use plate::settings::Made;
 use plate::settings::Settings;
+use putting::put_all;
 use sheets::Least;
 use sheets::NONE;
 use sheets::entry_index;
@@ -60,17 +58,6 @@ fn may_use(table: &[u32], s: Settings, bound: u32, start: usize, t: usize) -> bo
         return false;
     }
     layer_cell(table, s, start, t) <= bound
-}
-
-// An entry with a layer's error more, and none where there is none: only none and an error above 0 come to more than the greatest entry.
-fn sum_or_none(e: u64, cell: u32) -> u64
-    requires { ⌜ ((e ≡ missing → ⊥) → e ≤ greatestError) ⌝ }
-    ensures { λ r. ⌜ r ≡ mark (plus cell (unmark e)) ⌝ }
-{
-    if NONE - (cell as u64) < e {
-        return NONE;
-    }
-    e + cell as u64
 }
 
 // Past the counts that layers of at least tmin can reach the row `start` by, or the greatest count.
@@ -134,101 +121,6 @@ fn start_row(
     }
 }
 
-// A last layer put on the sequences of one count: the entry at `to` becomes the better of what it is and of that at `from` with the layer.
-fn put_on(errors: &mut [u64], thicknesses: &mut [u8], from: usize, to: usize, cell: u32, t: usize)
-    requires { ⌜ t ≤ 32 ⌝ }
-    requires { ⌜ Placed from to 1 (now errors) (now thicknesses) ⌝ }
-    ensures { λ _. ⌜ PutOn from to cell t 1 (now (errors .entry)) (now (thicknesses .entry)) (now (errors .exit)) (now (thicknesses .exit)) ⌝ }
-{
-    let c = sum_or_none(errors[from], cell);
-    if c < errors[to] {
-        errors[to] = c;
-        thicknesses[to] = t as u8;
-    }
-}
-
-// A last layer put on the sequences of two counts, one after the other.
-fn put_two(errors: &mut [u64], thicknesses: &mut [u8], from: usize, to: usize, cell: u32, t: usize)
-    requires { ⌜ t ≤ 32 ⌝ }
-    requires { ⌜ Placed from to 2 (now errors) (now thicknesses) ⌝ }
-    ensures { λ _. ⌜ PutOn from to cell t 2 (now (errors .entry)) (now (thicknesses .entry)) (now (errors .exit)) (now (thicknesses .exit)) ⌝ }
-{
-    put_on(errors, thicknesses, from, to, cell, t);
-    put_on(errors, thicknesses, from + 1, to + 1, cell, t);
-}
-
-// A last layer put on the sequences of four counts, two by two.
-fn put_four(errors: &mut [u64], thicknesses: &mut [u8], from: usize, to: usize, cell: u32, t: usize)
-    requires { ⌜ t ≤ 32 ⌝ }
-    requires { ⌜ Placed from to 4 (now errors) (now thicknesses) ⌝ }
-    ensures { λ _. ⌜ PutOn from to cell t 4 (now (errors .entry)) (now (thicknesses .entry)) (now (errors .exit)) (now (thicknesses .exit)) ⌝ }
-{
-    put_two(errors, thicknesses, from, to, cell, t);
-    put_two(errors, thicknesses, from + 2, to + 2, cell, t);
-}
-
-// A last layer put on the sequences of eight counts, four by four.
-fn put_eight(
-    errors: &mut [u64],
-    thicknesses: &mut [u8],
-    from: usize,
-    to: usize,
-    cell: u32,
-    t: usize,
-)
-    requires { ⌜ t ≤ 32 ⌝ }
-    requires { ⌜ Placed from to 8 (now errors) (now thicknesses) ⌝ }
-    ensures { λ _. ⌜ PutOn from to cell t 8 (now (errors .entry)) (now (thicknesses .entry)) (now (errors .exit)) (now (thicknesses .exit)) ⌝ }
-{
-    put_four(errors, thicknesses, from, to, cell, t);
-    put_four(errors, thicknesses, from + 4, to + 4, cell, t);
-}
-
-// A last layer put on the sequences of n counts, one by one.
-fn put_few(
-    errors: &mut [u64],
-    thicknesses: &mut [u8],
-    from: usize,
-    to: usize,
-    cell: u32,
-    t: usize,
-    n: usize,
-)
-    requires { ⌜ t ≤ 32 ⌝ }
-    requires { ⌜ Placed from to n (now errors) (now thicknesses) ⌝ }
-    ensures { λ _. ⌜ PutOn from to cell t n (now (errors .entry)) (now (thicknesses .entry)) (now (errors .exit)) (now (thicknesses .exit)) ⌝ }
-{
-    let mut m = 0;
-    while m < n {
-        put_on(errors, thicknesses, from + m, to + m, cell, t);
-        m += 1;
-    }
-}
-
-// A last layer put on the sequences of n counts by eights, which is where planning spends its time: a turn's own cost is shared by eight
-// counts.
-fn put_all(
-    errors: &mut [u64],
-    thicknesses: &mut [u8],
-    from: usize,
-    to: usize,
-    cell: u32,
-    t: usize,
-    n: usize,
-)
-    requires { ⌜ t ≤ 32 ⌝ }
-    requires { ⌜ Placed from to n (now errors) (now thicknesses) ⌝ }
-    ensures { λ _. ⌜ PutOn from to cell t n (now (errors .entry)) (now (thicknesses .entry)) (now (errors .exit)) (now (thicknesses .exit)) ⌝ }
-{
-    let whole = n / 8 * 8;
-    let mut m = 0;
-    while m < whole {
-        put_eight(errors, thicknesses, from + m, to + m, cell, t);
-        m += 8;
-    }
-    put_few(errors, thicknesses, from + m, to + m, cell, t, n - m);
-}
-
 // One thickness more in row q: a last layer of thickness t, permitted where it starts, for every count that its start row can have. Under
 // `first` there is none.
 fn relax(
@@ -253,7 +145,7 @@ fn relax(
     let to = entry_of(s, q, first) + 1;
     let cell = layer_cell(table, s, start, t);
     let end = end_count(s, start);
-    put_all(errors, thicknesses, from, to, cell, t, end - first);
+    put_all(errors, thicknesses, from, to, cell, t as u8, end - first);
 }
 
 // One thickness more in row q, where it may be used.

@@ -3,7 +3,8 @@
 use Prim.Native.Nat.{_+_, _≤_}
 use mathlib.Core.Path.{ap}
 use native.Mathlib.Omega.{arith}
-use Rattle.plan.proofs.Relaxing.{Relaxing, first-few, first-end, placed, relaxed}
+use borrow.Author.Needs.{needs}
+use Rattle.plan.proofs.Relaxing.{Relaxing, first-few, first-end, relaxed}
 use Rattle.plan.proofs.relax.Statement.{statement}
 use Rattle.plan.proofs.relax.Tie as tie
 
@@ -26,6 +27,7 @@ module _ (c : tie.After-end-count) where
     end-past = c .end-count .ensures .1;
     from-is = c .before .before .before .entry-of .ensures .0;
     to-is = ap (λ i. i + 1) (c .before .before .entry-of2 .ensures .0);
+    cell-fits = omega arith;
     cell-is = c .before .layer-cell .ensures;
   }
 
@@ -44,8 +46,9 @@ relax-spec =
     (λ c. let s = c .before .before .before .before .before in omega (arith, c .entry-of2 .ensures .1, s .pre .0 .sound .few-entries))
     (λ c κs. let s = c .before .before .before .before .before in (s .pre .0 .sound, (omega (arith, s .pre .1 .0 .row), s .pre .1 .1 .0 .thin)))
     (λ c κs. let s = c .before .before .before .before .before .before in (s .pre .0 .sound, omega (arith, s .pre .1 .0 .row, s .pre .1 .1 .0 .thick, s .pre .1 .1 .0 .above)))
+    (λ c. let e = c .before .before in omega (arith, s e .pre .1 .1 .0 .thin, s e .pre .0 .sound .thick))
     (λ c. first-end (found (c .before .before)))
-    (λ c κs. let e = c .before .before in (omega (arith, s e .pre .1 .1 .0 .thin, s e .pre .0 .sound .thick), placed (found e)))
+    (λ c κs. search needs)
     (λ c. whole c .errors-are .long)
     (λ c. whole c .thicknesses-are .long)
     whole)

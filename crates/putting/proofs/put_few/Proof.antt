@@ -1,10 +1,10 @@
 -- `put_few` meets its contract. The loop's invariant: the layer is put on the sequences of m counts. Assumes nothing.
 use Prim.Native.Nat.{_-_, _≤_}
 use native.Mathlib.Omega.{arith}
-use Rattle.plan.specs.Putting.{PutOn}
-use Rattle.plan.proofs.Putting.{put-none, put-more, put-as, placed-part, placed-rest}
-use Rattle.plan.proofs.put_few.Statement.{statement}
-use Rattle.plan.proofs.put_few.Tie as tie
+use Rattle.putting.specs.Putting.{PutOn}
+use Rattle.putting.proofs.Putting.{put-none, put-more, put-as, placed-part, placed-rest}
+use Rattle.putting.proofs.put_few.Statement.{statement}
+use Rattle.putting.proofs.put_few.Tie as tie
 
 abbrev Inv-loop : tie.InvT-loop
 Inv-loop errors₀ thicknesses₀ from to cell t n m₀ errors thicknesses m = (m ≤ n) × PutOn from to cell t m errors₀ thicknesses₀ errors thicknesses
@@ -16,13 +16,13 @@ put-on-requires : tie.Need-put-on-requires Inv-loop μ-loop
 put-on-requires c κs =
     let l = c .before .before .before in
     let s = l .before .before .before in
-    (s .pre .0, placed-part _ 1 (placed-rest _ _ (s .pre .1) (l .loop .inv .1) (l .loop .inv .0)) (omega arith))
+    placed-part _ 1 (placed-rest _ _ (s .pre) (l .loop .inv .1) (l .loop .inv .0)) (omega arith)
 
 loop-again : tie.Need-loop-again Inv-loop μ-loop
 loop-again c =
     let p = c .before .before .before .before in
     let l = p .before .before .before .before in
-    (omega arith, put-more _ 1 (l .loop .inv .1) (p .put-on .ensures) (omega (arith, l .before .before .before .pre .1 .apart)))
+    (omega arith, put-more _ 1 (l .loop .inv .1) (p .put-on .ensures) (omega (arith, l .before .before .before .pre .apart)))
 
 pub put-few-spec : {M : Type 1} → statement M
 put-few-spec =
@@ -31,8 +31,8 @@ put-few-spec =
     Inv-loop
     μ-loop
     (λ c. (omega arith, put-none))
-    (λ c. let l = c .before .before .before in omega (arith, l .before .before .before .pre .1 .apart, l .before .before .before .pre .1 .errors-long))
-    (λ c. let l = c .before .before .before in omega (arith, l .before .before .before .pre .1 .errors-long))
+    (λ c. let l = c .before .before .before in omega (arith, l .before .before .before .pre .apart, l .before .before .before .pre .errors-long))
+    (λ c. let l = c .before .before .before in omega (arith, l .before .before .before .pre .errors-long))
     put-on-requires
     (λ c. omega arith)
     (λ c. omega arith)

@@ -2,14 +2,15 @@
 -- a turn leaves alone what the later ones read, and counts put on in two parts are put on (`put-more`). Assumes nothing.
 use Prim.Native.Nat.{ℕ, _+_, _-_, _≤_, _<_}
 use mathlib.Core.Path.{_≡_, refl, sym, ap, _∙_}
+use mathlib.Core.Bool.{true, false, _&&_}
 use mathlib.Core.List.{List}
 use native.Mathlib.Omega.{arith}
-use borrow.Author.Tests.{lt-ltb, le-ltb}
+use borrow.Author.Tests.{lt-ltb, le-ltb, le-leb, lt-leb, leb-true}
+use lib.Dec.{leb}
 use lib.ListN.{length, getD, set}
 use Rattle.lists.proofs.Spans.{span-none, span-set, span-keep, span-as, span-more}
-use Rattle.sequence.specs.Least.{plus}
-use Rattle.sequence.specs.Sheets.{mark, unmark}
-use Rattle.plan.specs.Putting.{sumAt, betterError, betterThickness, PutOn, Placed}
+use Rattle.paper.proofs.Thicknesses.{and-true}
+use Rattle.putting.specs.Putting.{sumOrNone, sumAt, betterError, betterThickness, PutOn, fits, Placed}
 
 -- the better of two
 pub error-less : (sum error : ℕ) → sum < error → betterError sum error ≡ sum
@@ -35,10 +36,9 @@ module _ {from to cell t : ℕ} {E F : List ℕ} where
   -- counts after counts
   module _ {G H G′ H′ : List ℕ} (k j : ℕ) (r : PutOn from to cell t k E F G H) (s : PutOn (from + k) (to + k) cell t j G H G′ H′) (l : from + (k + j) ≤ to) where
     sum-same : (m : ℕ) → m < j → sumAt G cell (from + k + m) ≡ sumAt E cell (from + (k + m))
-    unfolding sumAt
     sum-same m h =
         let e : from + k + m ≡ from + (k + m) = omega arith in
-        ap (λ (x : ℕ). mark (plus cell (unmark x))) (ap (λ (i : ℕ). getD G i 0) e ∙ r .errors-are .below (from + (k + m)) (omega arith))
+        ap (λ (x : ℕ). sumOrNone x cell) (ap (λ (i : ℕ). getD G i 0) e ∙ r .errors-are .below (from + (k + m)) (omega arith))
 
     error-same : (m : ℕ) → getD G (to + k + m) 0 ≡ getD E (to + (k + m)) 0
     error-same m =
@@ -61,13 +61,7 @@ module _ {from to cell t : ℕ} {E F : List ℕ} where
     apart = omega (arith, r .apart);
     errors-long = omega (arith, r .errors-long, s .errors-are .long);
     thicknesses-long = omega (arith, r .thicknesses-long, s .thicknesses-are .long);
-    few = λ m h. rw (same m h) (r .few (k + m) (omega arith));
   }
-    where
-      same : (m : ℕ) → m < n - k → getD G (from + k + m) 0 ≡ getD E (from + (k + m)) 0
-      same m h =
-          let e : from + k + m ≡ from + (k + m) = omega arith in
-          ap (λ (i : ℕ). getD G i 0) e ∙ s .errors-are .below (from + (k + m)) (omega (arith, r .apart))
 
 -- the first counts of some
 pub placed-part : {from to : ℕ} {E F : List ℕ} (n k : ℕ) → Placed from to n E F → k ≤ n → Placed from to k E F
@@ -75,8 +69,32 @@ placed-part n k r l = record {
   apart = omega (arith, r .apart);
   errors-long = omega (arith, r .errors-long);
   thicknesses-long = omega (arith, r .thicknesses-long);
-  few = λ m h. r .few m (omega arith);
 }
+
+-- where the places lie in the sheets
+module _ (from to n errors thicknesses : ℕ) where
+  pub room-yes : from + n ≤ to → to + n ≤ errors → to + n ≤ thicknesses → fits from to n errors thicknesses ≡ true
+  unfolding fits
+  room-yes a b c = simp (le-leb (from + n) to a, le-leb (to + n) errors b, le-leb (to + n) thicknesses c)
+
+  pub room-before : to < from + n → fits from to n errors thicknesses ≡ false
+  unfolding fits
+  room-before l = simp (lt-leb (from + n) to l)
+
+  pub room-errors : from + n ≤ to → errors < to + n → fits from to n errors thicknesses ≡ false
+  unfolding fits
+  room-errors a l = simp (le-leb (from + n) to a, lt-leb (to + n) errors l)
+
+  pub room-thicknesses : from + n ≤ to → to + n ≤ errors → thicknesses < to + n → fits from to n errors thicknesses ≡ false
+  unfolding fits
+  room-thicknesses a b l = simp (le-leb (from + n) to a, le-leb (to + n) errors b, lt-leb (to + n) thicknesses l)
+
+pub placed-yes : (from to n : ℕ) (E F : List ℕ) → fits from to n (length E) (length F) ≡ true → Placed from to n E F
+unfolding fits
+placed-yes from to n E F e =
+    let a = and-true (leb (from + n) to) (leb (to + n) (length E) && leb (to + n) (length F)) e in
+    let b = and-true (leb (to + n) (length E)) (leb (to + n) (length F)) (a .1) in
+    record { apart = leb-true _ _ (a .0); errors-long = leb-true _ _ (b .0); thicknesses-long = leb-true _ _ (b .1) }
 
 -- one count
 module _ (from to cell t : ℕ) (E F : List ℕ) (sum : ℕ) (is : sum ≡ sumAt E cell from) where
