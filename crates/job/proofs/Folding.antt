@@ -6,7 +6,6 @@ use mathlib.Core.Option.{Option}
 use Prim.Native.Nat.{ℕ, zero, suc, pred, _-_, _<_}
 use native.Mathlib.Omega.{arith}
 use lib.ListN.{length}
-use Rattle.lists.specs.Checks.{first}
 use Rattle.paper.specs.Layer.{Column}
 use Rattle.plate.specs.Refusal.{Told, done, refused, Numbered}
 use Rattle.job.specs.State.{startState, askedOf}

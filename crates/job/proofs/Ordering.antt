@@ -18,10 +18,10 @@ use Rattle.column.specs.Order.{columnChecks}
 use Rattle.record.specs.Bytes.{words}
 use Rattle.record.specs.Frame.{bodyAt}
 use Rattle.record.proofs.Bytes.{quad-small}
-use Rattle.job.specs.State.{startState, begin, counted, askedOf}
+use Rattle.job.specs.State.{begin, counted, askedOf}
 use Rattle.job.specs.Record.{askedAt, What, settings, column, ended, remark, Moved, readRecord}
 use Rattle.job.specs.Fold.{foldFrom}
-use Rattle.job.specs.File.{Finished, Asking, unless, behind, columnIn, jobBy, jobOver, endless, jobFrom}
+use Rattle.job.specs.File.{Finished, Asking, behind, columnIn, jobBy, jobOver, endless, jobFrom}
 use Rattle.job.specs.Reached.{Passes, Ends, Reached, start, further, columnsTo, ColumnsInOrder, Ordered}
 use Rattle.job.specs.declared.Asked.{Asked}
 use Rattle.job.specs.declared.State.{State}

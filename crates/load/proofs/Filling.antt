@@ -16,8 +16,12 @@ use Rattle.paper.specs.Limits.{mostBoundaries}
 use Rattle.paper.specs.Layer.{Column, columnOf}
 use Rattle.paper.specs.Table.{cells}
 use Rattle.plate.specs.Refusal.{Told, done, refused, refusal}
+<<<<<<< HEAD
 use Rattle.plate.specs.Head.{Held, heldIn, headFor}
 use Rattle.plate.specs.declared.head.Head.{Head}
+=======
+use Rattle.plate.specs.Head.{Held, heldIn}
+>>>>>>> refs/heads/job
 use Rattle.plate.specs.declared.refusal.Refusal.{Refusal}
 use Rattle.plate.proofs.Heads.{not-full}
 use Rattle.column.specs.Order.{columnChecks}
@@ -28,14 +32,13 @@ use Rattle.adding.proofs.Plates.{added-is, adds}
 use Rattle.record.specs.Bytes.{words}
 use Rattle.record.proofs.Bytes.{length-words}
 use Rattle.plate.specs.Settings.{settingsChecks}
-use Rattle.job.specs.State.{startState, askedOf}
+use Rattle.job.specs.State.{startState}
 use Rattle.job.specs.Record.{What, settings, column, ended, remark, Moved, readRecord}
 use Rattle.job.specs.File.{Finished, columnIn}
-use Rattle.job.specs.Reached.{Passes, Reached, start, further, columnsTo}
+use Rattle.job.specs.Reached.{Reached, start, further, columnsTo}
 use Rattle.job.specs.declared.Asked.{Asked}
 use Rattle.job.specs.declared.State.{State}
 use Rattle.job.proofs.Says.{SaysBy, read-says}
-use Rattle.job.proofs.Folding.{jobEnding}
 use Rattle.job.proofs.Ordering.{under, asks-for}
 use Rattle.load.specs.Load.{tooLarge, frontOf}
 use Rattle.load.specs.Heeding.{Heeded, CanAdd, addedAll, Cleared, filledBy}

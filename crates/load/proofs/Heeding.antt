@@ -3,19 +3,17 @@
 use mathlib.Core.Path.{_≡_, refl, sym, ap, subst, _∙_}
 use mathlib.Core.Bool.{true, false}
 use mathlib.Core.List.{List}
-use mathlib.Core.Option.{none, some}
 use Prim.Native.Nat.{ℕ}
 use lib.ListN.{length}
 use Rattle.lists.specs.Checks.{first}
 use Rattle.plate.specs.Head.{headFor}
 use Rattle.plate.specs.Refusal.{Told, done, refused, refusal, numberOf}
-use Rattle.plate.specs.Settings.{settingsChecks}
 use Rattle.plate.specs.declared.refusal.Reason.{Reason}
 use Rattle.plate.specs.declared.refusal.Reason.the-variants as reason
 use Rattle.plate.specs.declared.refusal.Refusal.{Refusal}
 use Rattle.job.specs.State.{askedOf}
 use Rattle.job.specs.Record.{What, settings, column, ended, remark, Moved, readRecord, toldRead}
-use Rattle.job.specs.Reached.{Passes, Stops, Ends, Reached, further, columnsTo}
+use Rattle.job.specs.Reached.{Passes, Stops, Reached, further, columnsTo}
 use Rattle.job.specs.declared.Asked.{Asked}
 use Rattle.job.specs.declared.State.{State}
 use Rattle.job.specs.declared.Read.{Read}
@@ -23,7 +21,7 @@ use Rattle.job.specs.declared.Read.the-variants as read
 use Rattle.job.proofs.Says.{Ahead, SaysBy, read-says, says-of}
 use Rattle.job.proofs.Folding.{jobEnding, goes-on, stopped, ended-there}
 use Rattle.job.proofs.Ordering.{under}
-use Rattle.load.specs.Load.{isLarge, tooLarge, frontOf, loadOf}
+use Rattle.load.specs.Load.{isLarge, tooLarge, frontOf}
 use Rattle.load.specs.Heeding.{Sane, Heeded, Surveyed}
 use Rattle.load.specs.declared.Heed.{Heed}
 use Rattle.load.specs.declared.Heed.the-variants as heed

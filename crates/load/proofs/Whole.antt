@@ -1,6 +1,5 @@
 -- A whole file is the job at its front, where nothing stands past it; and a job that is not refused is in order and fits. Assumes nothing.
 use mathlib.Core.Path.{_≡_, refl, sym, ap, subst, _∙_}
-use mathlib.Core.Bool.{_||_}
 use mathlib.Core.List.{List, [], _∷_}
 use mathlib.Core.Option.{none}
 use Prim.Native.Nat.{ℕ, _<_}

@@ -2,7 +2,7 @@
 -- after the end decide too. A file that is not refused has settings and columns in order, so they are document 01's; and in a buffer with room
 -- nothing is refused, and the table is that of the columns. Assumes nothing.
 use mathlib.Core.Path.{_≡_, refl, sym, ap, subst, _∙_}
-use mathlib.Core.Logic.{_⊎_, inl, inr, _↔_}
+use mathlib.Core.Logic.{inl, inr, _↔_}
 use mathlib.Core.List.{List, [], _∷_}
 use mathlib.Core.Option.{Option, none}
 use Prim.Native.Nat.{ℕ, _≤_, _<_}
@@ -30,7 +30,7 @@ use Rattle.job.proofs.Says.{SaysBy, read-says}
 use Rattle.job.proofs.Folding.{jobEnding}
 use Rattle.job.proofs.Deciding.{fault-decides, end-decides as job-decides}
 use Rattle.job.proofs.Ordering.{under, same-asked}
-use Rattle.load.specs.Load.{tooLarge, jobOf, loadOf, loadingJob, loading, loadAnswer, loadTable}
+use Rattle.load.specs.Load.{tooLarge, jobOf, loadingJob, loading, loadAnswer, loadTable}
 use Rattle.load.proofs.Whole.{whole-by, Front, front-of, fitting}
 use Rattle.promises.specs.Runs.{Columns}
 use Rattle.promises.specs.Files.{StopsFile, faultPlace, Closes, FileRead}

@@ -3,7 +3,7 @@
 use Prim.Native.Nat.{ℕ, _+_}
 use mathlib.Core.List.{List, _++_}
 use lib.IntN.{ℤ, pos}
-use lib.ListN.{length, take, replicate}
+use lib.ListN.{take, replicate}
 use Rattle.plate.specs.Refusal.{Told, done, refused}
 use Rattle.plate.specs.Call.{answerOf, leftBy}
 use Rattle.plate.specs.Head.{heldIn}
