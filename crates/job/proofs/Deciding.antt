@@ -14,7 +14,7 @@ use Rattle.job.specs.Record.{What, settings, column, ended, remark, Move
 use Rattle.job.specs.File.{Finished, Asking, jobFrom}
 use Rattle.job.specs.Reached.{Passes, Stops, Ends, Reached, start, further, columnsTo}
 use Rattle.job.specs.declared.State.{State}
-use Rattle.job.proofs.Folding.{finished, goes-on, stopped, ended-there}
+use Rattle.job.proofs.Folding.{jobEnding, goes-on, stopped, ended-there}
 
 module _ (asking : Asking) (s : List ℕ) where
   -- a record is at fault, or the end
@@ -72,11 +72,11 @@ module _ (asking : Asking) (s : List ℕ) where
   -- and where none is, the end that is reached: with what was read on the way there
   pub end-decides : (f : Finished) → (jobFrom asking s ≡ done f)
       ↔ ((st : State) × (at : ℕ) × (r : Reached asking s st at) × Ends (readRecord s st at .told)
-      × (finished (askedOf (readRecord s st at .state)) (columnsTo r) (readRecord s st at .next) ≡ f))
+      × (jobEnding (askedOf (readRecord s st at .state)) (columnsTo r) (readRecord s st at .next) ≡ f))
   end-decides f = (λ e. to e all-settled, λ x. ended-there asking s (x .2) (x .3) ∙ (λ i. done (x .4 i)))
     where
       to : jobFrom asking s ≡ done f → Settled
           → (st : State) × (at : ℕ) × (r : Reached asking s st at) × Ends (readRecord s st at .told)
-          × (finished (askedOf (readRecord s st at .state)) (columnsTo r) (readRecord s st at .next) ≡ f)
+          × (jobEnding (askedOf (readRecord s st at .state)) (columnsTo r) (readRecord s st at .next) ≡ f)
       to e (st, at, r, inl (n, q, p)) = absurd (let g = sym (stopped asking s r n q p) ∙ e in let z : _≡_ {A = ℕ} 0 1 = cc in omega arith)
       to e (st, at, r, inr p) = let g = sym (ended-there asking s r p) ∙ e in (st, at, r, p, (cc))

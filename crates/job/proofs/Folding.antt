@@ -6,7 +6,6 @@ use mathlib.Core.Option.{Option}
 use Prim.Native.Nat.{ℕ, zero, suc, pred, _-_, _<_}
 use native.Mathlib.Omega.{arith}
 use lib.ListN.{length}
-use Rattle.lists.specs.Checks.{first}
 use Rattle.paper.specs.Layer.{Column}
 use Rattle.plate.specs.Refusal.{Told, done, refused, Numbered}
 use Rattle.job.specs.State.{startState, askedOf}
@@ -27,8 +26,8 @@ behind-twice xs ys (done f) = ap (λ (l : List Column). done (record { job = rec
 behind-twice xs ys (refused number place) = refl
 
 -- a job that ends at a place, with what its settings ask for and these columns
-abbrev pub finished : Asked → List Column → ℕ → Finished
-finished a columns past = record { job = record { asked = a; columns = columns }; past = past }
+abbrev pub jobEnding : Asked → List Column → ℕ → Finished
+jobEnding a columns past = record { job = record { asked = a; columns = columns }; past = past }
 
 module _ (asking : Asking) (s : List ℕ) where
   -- ---- one record
@@ -105,8 +104,8 @@ module _ (asking : Asking) (s : List ℕ) where
     stopped number place p =
         decides (left r) ∙ ap (behind (columnsTo r)) (stops-file at (readRecord s st at) (readRecord s st at .told) number place p (rest (left r)))
 
-    pub ended-there : Ends (readRecord s st at .told) → jobFrom asking s ≡ done (finished (askedOf (readRecord s st at .state)) (columnsTo r) (readRecord s st at .next))
+    pub ended-there : Ends (readRecord s st at .told) → jobFrom asking s ≡ done (jobEnding (askedOf (readRecord s st at .state)) (columnsTo r) (readRecord s st at .next))
     ended-there e =
         decides (left r)
         ∙ ap (behind (columnsTo r)) (ap (λ (t : Told What). jobBy asking t s at (readRecord s st at) (rest (left r))) (e .1))
-        ∙ ap (λ (l : List Column). done (finished (askedOf (readRecord s st at .state)) l (readRecord s st at .next))) (append-nil (columnsTo r))
+        ∙ ap (λ (l : List Column). done (jobEnding (askedOf (readRecord s st at .state)) l (readRecord s st at .next))) (append-nil (columnsTo r))

@@ -18,18 +18,18 @@ use Rattle.column.specs.Order.{columnChecks}
 use Rattle.record.specs.Bytes.{words}
 use Rattle.record.specs.Frame.{bodyAt}
 use Rattle.record.proofs.Bytes.{quad-small}
-use Rattle.job.specs.State.{startState, begin, counted, askedOf}
+use Rattle.job.specs.State.{begin, counted, askedOf}
 use Rattle.job.specs.Record.{askedAt, What, settings, column, ended, remark, Moved, readRecord}
 use Rattle.job.specs.Fold.{foldFrom}
-use Rattle.job.specs.File.{Finished, Asking, unless, behind, columnIn, jobBy, jobOver, endless, jobFrom}
-use Rattle.job.specs.Reached.{Passes, Ends, Reached, start, further, columnsTo, InOrder, Ordered}
+use Rattle.job.specs.File.{Finished, Asking, behind, columnIn, jobBy, jobOver, endless, jobFrom}
+use Rattle.job.specs.Reached.{Passes, Ends, Reached, start, further, columnsTo, ColumnsInOrder, Ordered}
 use Rattle.job.specs.declared.Asked.{Asked}
 use Rattle.job.specs.declared.State.{State}
 use Rattle.job.proofs.Says.{SaysBy, read-says}
-use Rattle.job.proofs.Folding.{finished, left}
+use Rattle.job.proofs.Folding.{jobEnding, left}
 use Rattle.job.proofs.Deciding.{end-decides}
 
-one-more : (N : ℕ) (columns : List Column) (bs : List ℕ) → InOrder N columns → first (columnChecks N bs) ≡ none → InOrder N (columns ++ (columnOf bs ∷ []))
+one-more : (N : ℕ) (columns : List Column) (bs : List ℕ) → ColumnsInOrder N columns → first (columnChecks N bs) ≡ none → ColumnsInOrder N (columns ++ (columnOf bs ∷ []))
 one-more N [] bs o e = (e, tt)
 one-more N (c ∷ columns) bs o e = (o .0, one-more N columns bs (o .1) e)
 
@@ -54,7 +54,7 @@ module _ (asking : Asking) (s : List ℕ) where
     pub unended : st .ended ≡ false
     pub counts : st .head .columns ≡ length columns
     pub few : st .head .columns ≤ mostColumns
-    pub order : InOrder (st .head .height) columns
+    pub order : ColumnsInOrder (st .head .height) columns
 
   step : (st : State) (columns : List Column) (at : ℕ) (m : Moved) (t : Told What) → Passes asking at t → SaysBy s st at m t → Under st columns
       → Under (m .state) (columns ++ columnIn s t)
@@ -72,7 +72,7 @@ module _ (asking : Asking) (s : List ℕ) where
         unended = u .unended;
         counts = u .counts;
         few = u .few;
-        order = subst (InOrder (a .height)) (sym none-yet) tt;
+        order = subst (ColumnsInOrder (a .height)) (sym none-yet) tt;
       } in
       subst (Under (m .state)) (sym (append-nil columns)) (subst (λ (x : State). Under x columns) (sym (q .state)) new)
   step st columns at m (done (column from count)) p q u =
@@ -108,7 +108,7 @@ module _ (asking : Asking) (s : List ℕ) where
   ordered byte f e = go (end-decides asking s f .0 e)
     where
       go : ((st : State) × (at : ℕ) × (r : Reached asking s st at) × Ends (readRecord s st at .told)
-          × (finished (askedOf (readRecord s st at .state)) (columnsTo r) (readRecord s st at .next) ≡ f)) → Ordered asking (f .job)
+          × (jobEnding (askedOf (readRecord s st at .state)) (columnsTo r) (readRecord s st at .next) ≡ f)) → Ordered asking (f .job)
       go (st, at, r, e, is) =
           let u = under r in
           let q = subst (SaysBy s st at (readRecord s st at)) (e .1) (read-says s st at .by) in
@@ -129,7 +129,7 @@ module _ (asking : Asking) (s : List ℕ) where
 
   behind-done : (columns : List Column) (t : Told Finished) (f : Finished) → behind columns t ≡ done f → (g : Finished) × (t ≡ done g) × (g .job .asked ≡ f .job .asked)
   behind-done columns (done g) f e =
-      let is : finished (g .job .asked) (columns ++ g .job .columns) (g .past) ≡ f = cc in
+      let is : jobEnding (g .job .asked) (columns ++ g .job .columns) (g .past) ≡ f = cc in
       (g, refl, ap (λ (x : Finished). x .job .asked) is)
   behind-done columns (refused number place) f e = absurd (let z : _≡_ {A = ℕ} 0 1 = cc in omega arith)
 
@@ -141,7 +141,7 @@ module _ (asking : Asking) (s : List ℕ) where
     stays (done (column from count)) q f e =
         let b = behind-done (columnOf (words s from count) ∷ []) (rest (m .state) (m .next)) f e in
         sym (b .2) ∙ later (m .state) (m .next) (ap (λ (x : State). x .begun) (q .state) ∙ begun) (b .0) (b .1) ∙ ap askedOf (q .state)
-    stays (done (ended columns)) q f e = let g : finished (askedOf (m .state)) [] (m .next) ≡ f = cc in sym (ap (λ (x : Finished). x .job .asked) g) ∙ same-asked (m .state) st (q .head) (q .bound)
+    stays (done (ended columns)) q f e = let g : jobEnding (askedOf (m .state)) [] (m .next) ≡ f = cc in sym (ap (λ (x : Finished). x .job .asked) g) ∙ same-asked (m .state) st (q .head) (q .bound)
     stays (done remark) q f e = later (m .state) (m .next) (ap (λ (x : State). x .begun) (q .state) ∙ begun) f e ∙ ap askedOf (q .state)
     stays (refused number place) q f e = absurd (let z : _≡_ {A = ℕ} 0 1 = cc in omega arith)
 

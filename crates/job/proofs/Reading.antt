@@ -1,13 +1,13 @@
 -- One record by its checks. After the end record only what is left is asked; otherwise the frame is judged, by the record's kind, and where it
 -- passes the body decides. A refusal says its number at the record's first byte. Assumes nothing.
-use mathlib.Core.Path.{_≡_, refl, sym, ap, _∙_, subst}
+use mathlib.Core.Path.{_≡_, refl, sym, ap, _∙_}
 use mathlib.Core.Bool.{Bool, true, false, cond}
-use mathlib.Core.List.{List, [], _∷_, _++_}
+use mathlib.Core.List.{List, [], _∷_}
 use mathlib.Core.Option.{Option, none, some}
 use Prim.Native.Nat.{ℕ}
 use Rattle.lists.specs.Checks.{Check, first}
 use Rattle.lists.proofs.Checks.{first-passed, first-stopped}
-use Rattle.plate.specs.Refusal.{done, refused, refusal, Numbered, numbered, numberOf, toldBy, decided}
+use Rattle.plate.specs.Refusal.{done, refused, Numbered, numbered, numberOf, toldBy, decided}
 use Rattle.plate.specs.declared.refusal.Refusal.{Refusal}
 use Rattle.record.specs.Frame.{lengthAt}
 use Rattle.record.specs.Faults.{tail, frameChecks}
@@ -15,7 +15,7 @@ use Rattle.record.specs.Places.{At}
 use Rattle.record.proofs.Frames.{frame-at}
 use Rattle.record.proofs.Places.{at-place}
 use Rattle.job.specs.Kinds.{allowedHere, fits}
-use Rattle.job.specs.Record.{bodyChecks, kindChecks, recordKind, recordChecks, Reading, readingOf, again, readingAt, Moved, moved, readRecord, readBody}
+use Rattle.job.specs.Record.{bodyChecks, kindChecks, recordKind, recordChecks, Reading, readingOf, again, moved, readRecord, readBody}
 use Rattle.job.specs.declared.State.{State}
 use Rattle.job.specs.declared.Kind.{Kind}
 

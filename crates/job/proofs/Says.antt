@@ -9,7 +9,7 @@ use native.Mathlib.Omega.{arith}
 use borrow.Author.Tests.{eqb-true, not-true, not-false}
 use lib.Dec.{eqb}
 use lib.ListN.{length}
-use Rattle.lists.specs.Checks.{Check, first}
+use Rattle.lists.specs.Checks.{first}
 use Rattle.lists.proofs.Checks.{first-none, first-later}
 use Rattle.plate.specs.Refusal.{Told, done, refused, Numbered, toldBy}
 use Rattle.plate.specs.Settings.{settingsChecks}

@@ -48,9 +48,9 @@ columnsTo start = []
 columnsTo {s = s} (further {st} {at} r p) = columnsTo r ++ columnIn s (readRecord s st at .told)
 
 -- every one of the columns is in order
-abbrev pub InOrder : ℕ → List Column → Type 0
-InOrder N [] = Unit {0}
-InOrder N (one ∷ others) = (first (columnChecks N (one .boundaries)) ≡ none) × InOrder N others
+abbrev pub ColumnsInOrder : ℕ → List Column → Type 0
+ColumnsInOrder N [] = Unit {0}
+ColumnsInOrder N (one ∷ others) = (first (columnChecks N (one .boundaries)) ≡ none) × ColumnsInOrder N others
 
 -- a job whose settings and columns are in order, with no more columns than a table can have
 pub record Ordered (asking : Asking) (job : Job) : Type 0 where
@@ -59,5 +59,5 @@ pub record Ordered (asking : Asking) (job : Job) : Type 0 where
   pub unasked : first (asking place (job .asked)) ≡ none
   pub bits : job .asked .members < 4_294_967_296
   pub low-bound : job .asked .bound < 4_294_967_296
-  pub order : InOrder (job .asked .height) (job .columns)
+  pub order : ColumnsInOrder (job .asked .height) (job .columns)
   pub few : length (job .columns) ≤ mostColumns

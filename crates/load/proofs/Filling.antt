@@ -16,8 +16,12 @@ use Rattle.paper.specs.Limits.{mostBoundaries}
 use Rattle.paper.specs.Layer.{Column, columnOf}
 use Rattle.paper.specs.Table.{cells}
 use Rattle.plate.specs.Refusal.{Told, done, refused, refusal}
-use Rattle.plate.specs.Head.{Held, heldIn}
+<<<<<<< HEAD
+use Rattle.plate.specs.Head.{Held, heldIn, headFor}
 use Rattle.plate.specs.declared.head.Head.{Head}
+=======
+use Rattle.plate.specs.Head.{Held, heldIn}
+>>>>>>> refs/heads/job
 use Rattle.plate.specs.declared.refusal.Refusal.{Refusal}
 use Rattle.plate.proofs.Heads.{not-full}
 use Rattle.column.specs.Order.{columnChecks}
@@ -28,17 +32,16 @@ use Rattle.adding.proofs.Plates.{added-is, adds}
 use Rattle.record.specs.Bytes.{words}
 use Rattle.record.proofs.Bytes.{length-words}
 use Rattle.plate.specs.Settings.{settingsChecks}
-use Rattle.job.specs.State.{startState, askedOf}
+use Rattle.job.specs.State.{startState}
 use Rattle.job.specs.Record.{What, settings, column, ended, remark, Moved, readRecord}
 use Rattle.job.specs.File.{Finished, columnIn}
-use Rattle.job.specs.Reached.{Passes, Reached, start, further, columnsTo}
+use Rattle.job.specs.Reached.{Reached, start, further, columnsTo}
 use Rattle.job.specs.declared.Asked.{Asked}
 use Rattle.job.specs.declared.State.{State}
 use Rattle.job.proofs.Says.{SaysBy, read-says}
-use Rattle.job.proofs.Folding.{finished}
 use Rattle.job.proofs.Ordering.{under, asks-for}
-use Rattle.load.specs.Load.{sizeChecks, frontOf}
-use Rattle.load.specs.Heeding.{Heeded, Addable, addedAll, Cleared, filledBy}
+use Rattle.load.specs.Load.{tooLarge, frontOf}
+use Rattle.load.specs.Heeding.{Heeded, CanAdd, addedAll, Cleared, filledBy}
 use Rattle.load.specs.declared.Heed.{Heed}
 use Rattle.load.specs.declared.Heed.the-variants as heed
 use Rattle.load.proofs.Heeding.{means, ends, refuses}
@@ -59,7 +62,7 @@ tableBy (refused number place) columns old = old
 module _ (most : ℕ) (s old : List ℕ) where
   -- what is known at a place: it is reached, and the table is that of the columns on the way there
   pub record Filling (st : State) (at : ℕ) (table : List ℕ) : Type 0 where
-    pub reached : Reached (sizeChecks most) s st at
+    pub reached : Reached (tooLarge most) s st at
     pub table-is : table ≡ tableBy (frontOf most s) (columnsTo reached) old
 
   -- the table stays as long as it was
@@ -106,17 +109,17 @@ module _ (most : ℕ) (s old : List ℕ) where
       -- once settings were read, the table and the state's head are those of the columns so far
       held-is : st .begun ≡ true → plateHeld N T columns old ≡ heldIn (st .head) table
       held-is b =
-          let a = asks-for (sizeChecks most) s (f .reached) b job is in
-          let n = under (sizeChecks most) s (f .reached) .counts in
+          let a = asks-for (tooLarge most) s (f .reached) b job is in
+          let n = under (tooLarge most) s (f .reached) .counts in
           let t : table ≡ tableOf N T columns old = f .table-is ∙ ap (λ (t : Told Finished). tableBy t columns old) is in
-          λ i. heldIn (record { height = a i .height; members = a i .members; columns = sym n i }) (sym t i)
+          λ i. heldIn (headFor (a i .height) (a i .members) (sym n i)) (sym t i)
 
-      addable-by : (m : Moved) (t : Told What) → SaysBy s st at m t → Addable s (st .head) table t
+      addable-by : (m : Moved) (t : Told What) → SaysBy s st at m t → CanAdd s (st .head) table t
       addable-by m (done (settings a)) q = tt
       addable-by m (done (column from count)) q =
           let bs = words s from count in
-          let a = asks-for (sizeChecks most) s (f .reached) (q .begun) job is in
-          let u = under (sizeChecks most) s (f .reached) in
+          let a = asks-for (tooLarge most) s (f .reached) (q .begun) job is in
+          let u = under (tooLarge most) s (f .reached) in
           let order = subst (λ (x : Asked). first (columnChecks (x .height) bs) ≡ none) (sym a) (q .order) in
           let fine = subst (λ (x : Asked). first (settingsChecks (x .height) (x .members)) ≡ none) (sym a) (u .settled (q .begun) .fine) in
           let few = not-full (st .head) (q .room) in (
@@ -139,7 +142,7 @@ module _ (most : ℕ) (s old : List ℕ) where
       added-by m (refused number place) q = f .table-is ∙ ap (λ (x : List Column). tableBy (frontOf most s) x old) (sym (append-nil columns))
 
       module _ (m : Moved) (e : m ≡ readRecord s st at) where
-        pub addable : Addable s (st .head) table (m .told)
+        pub addable : CanAdd s (st .head) table (m .told)
         addable = addable-by m (m .told) (subst (λ (x : Moved). SaysBy s st at x (x .told)) (sym e) (read-says s st at .by))
 
         module _ (h : Heed) (k : Heeded h most at (m .told)) where

@@ -3,26 +3,25 @@
 use mathlib.Core.Path.{_≡_, refl, sym, ap, subst, _∙_}
 use mathlib.Core.Bool.{true, false}
 use mathlib.Core.List.{List}
-use mathlib.Core.Option.{none, some}
 use Prim.Native.Nat.{ℕ}
 use lib.ListN.{length}
 use Rattle.lists.specs.Checks.{first}
+use Rattle.plate.specs.Head.{headFor}
 use Rattle.plate.specs.Refusal.{Told, done, refused, refusal, numberOf}
-use Rattle.plate.specs.Settings.{settingsChecks}
 use Rattle.plate.specs.declared.refusal.Reason.{Reason}
 use Rattle.plate.specs.declared.refusal.Reason.the-variants as reason
 use Rattle.plate.specs.declared.refusal.Refusal.{Refusal}
 use Rattle.job.specs.State.{askedOf}
 use Rattle.job.specs.Record.{What, settings, column, ended, remark, Moved, readRecord, toldRead}
-use Rattle.job.specs.Reached.{Passes, Stops, Ends, Reached, further, columnsTo}
+use Rattle.job.specs.Reached.{Passes, Stops, Reached, further, columnsTo}
 use Rattle.job.specs.declared.Asked.{Asked}
 use Rattle.job.specs.declared.State.{State}
 use Rattle.job.specs.declared.Read.{Read}
 use Rattle.job.specs.declared.Read.the-variants as read
 use Rattle.job.proofs.Says.{Ahead, SaysBy, read-says, says-of}
-use Rattle.job.proofs.Folding.{finished, goes-on, stopped, ended-there}
+use Rattle.job.proofs.Folding.{jobEnding, goes-on, stopped, ended-there}
 use Rattle.job.proofs.Ordering.{under}
-use Rattle.load.specs.Load.{isLarge, sizeChecks, frontOf, loadOf}
+use Rattle.load.specs.Load.{isLarge, tooLarge, frontOf}
 use Rattle.load.specs.Heeding.{Sane, Heeded, Surveyed}
 use Rattle.load.specs.declared.Heed.{Heed}
 use Rattle.load.specs.declared.Heed.the-variants as heed
@@ -32,16 +31,16 @@ use Rattle.load.specs.declared.Survey.the-variants as survey
 
 module _ (most at : ℕ) where
   pub fault : (r : Read) (why : Reason) (place : ℕ) (x : Refusal) → r ≡ read.Fault why place → x ≡ record { reason = why; place = place }
-      → Stops (sizeChecks most) at (toldRead r) (numberOf (x .reason)) (x .place)
+      → Stops (tooLarge most) at (toldRead r) (numberOf (x .reason)) (x .place)
   fault r why place x e f = rw (e, f) (refl, refl)
 
   pub too-large : (r : Read) (a : Asked) (x : Refusal) → r ≡ read.Settings a → isLarge most a ≡ true → x ≡ record { reason = reason.TooLarge; place = at }
-      → Stops (sizeChecks most) at (toldRead r) (numberOf (x .reason)) (x .place)
-  unfolding sizeChecks
+      → Stops (tooLarge most) at (toldRead r) (numberOf (x .reason)) (x .place)
+  unfolding tooLarge
   too-large r a x e l f = rw (e, f) (rw l)
 
-  pub small : (r : Read) (a : Asked) → r ≡ read.Settings a → isLarge most a ≡ false → Passes (sizeChecks most) at (toldRead r)
-  unfolding sizeChecks
+  pub small : (r : Read) (a : Asked) → r ≡ read.Settings a → isLarge most a ≡ false → Passes (tooLarge most) at (toldRead r)
+  unfolding tooLarge
   small r a e l = rw e (rw l)
 
 -- the settings of a settings record are in order
@@ -57,35 +56,35 @@ read-sane s st at m e = sane s st at m (m .told) (says-of s st at m e)
 
 -- ---- the record at a place that is reached
 
-module _ (most : ℕ) (s : List ℕ) {st : State} {at : ℕ} (r : Reached (sizeChecks most) s st at) (m : Moved) (e : m ≡ readRecord s st at) (h : Heed) (k : Heeded h most at (m .told)) where
+module _ (most : ℕ) (s : List ℕ) {st : State} {at : ℕ} (r : Reached (tooLarge most) s st at) (m : Moved) (e : m ≡ readRecord s st at) (h : Heed) (k : Heeded h most at (m .told)) where
   -- what it means, by what it is
   pub means : (x : Heed) → h ≡ x → Heeded x most at (readRecord s st at .told)
   means x f = subst (λ (y : Heed). Heeded y most at (readRecord s st at .told)) f (subst (λ (y : Moved). Heeded h most at (y .told)) e k)
 
   pub refuses : (x : Refusal) → h ≡ heed.Refused x → frontOf most s ≡ refusal x
-  refuses x f = stopped (sizeChecks most) s r (numberOf (x .reason)) (x .place) (means (heed.Refused x) f)
+  refuses x f = stopped (tooLarge most) s r (numberOf (x .reason)) (x .place) (means (heed.Refused x) f)
 
   pub ahead : h ≡ heed.Onward → Ahead s at (m .next)
-  ahead f = subst (λ (y : Moved). Ahead s at (y .next)) (sym e) (goes-on (sizeChecks most) s st at (means heed.Onward f))
+  ahead f = subst (λ (y : Moved). Ahead s at (y .next)) (sym e) (goes-on (tooLarge most) s st at (means heed.Onward f))
 
-  pub onward : h ≡ heed.Onward → Reached (sizeChecks most) s (m .state) (m .next)
-  onward f = subst (λ (y : Moved). Reached (sizeChecks most) s (y .state) (y .next)) (sym e) (further r (means heed.Onward f))
+  pub onward : h ≡ heed.Onward → Reached (tooLarge most) s (m .state) (m .next)
+  onward f = subst (λ (y : Moved). Reached (tooLarge most) s (y .state) (y .next)) (sym e) (further r (means heed.Onward f))
 
-  pub ends : h ≡ heed.Ended → frontOf most s ≡ done (finished (askedOf (m .state)) (columnsTo r) (m .next))
+  pub ends : h ≡ heed.Ended → frontOf most s ≡ done (jobEnding (askedOf (m .state)) (columnsTo r) (m .next))
   ends f =
-      ended-there (sizeChecks most) s r (means heed.Ended f)
-      ∙ ap (λ (y : Moved). done (finished (askedOf (y .state)) (columnsTo r) (y .next))) (sym e)
+      ended-there (tooLarge most) s r (means heed.Ended f)
+      ∙ ap (λ (y : Moved). done (jobEnding (askedOf (y .state)) (columnsTo r) (y .next))) (sym e)
 
   -- the end: what goes with the table of the columns on the way there is the state's
   pub seen : h ≡ heed.Ended → Surveyed (survey.Ended (record { head = m .state .head; bound = m .state .bound }) (m .next)) (frontOf most s)
   seen f =
       let q = subst (SaysBy s st at (readRecord s st at)) (means heed.Ended f .1) (read-says s st at .by) in
       let n : length (columnsTo r) ≡ m .state .head .columns =
-      sym (under (sizeChecks most) s r .counts) ∙ sym (ap (λ x. x .columns) (q .head)) ∙ ap (λ (y : Moved). y .state .head .columns) (sym e) in (
+      sym (under (tooLarge most) s r .counts) ∙ sym (ap (λ x. x .columns) (q .head)) ∙ ap (λ (y : Moved). y .state .head .columns) (sym e) in (
         record {
-          found = finished (askedOf (m .state)) (columnsTo r) (m .next);
+          found = jobEnding (askedOf (m .state)) (columnsTo r) (m .next);
           is = ends f;
-          asks = λ i. record { head = record { height = m .state .head .height; members = m .state .head .members; columns = n i }; bound = m .state .bound };
+          asks = λ i. record { head = headFor (m .state .head .height) (m .state .head .members) (n i); bound = m .state .bound };
         },
         refl,
       )

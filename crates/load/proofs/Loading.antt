@@ -4,14 +4,14 @@
 use mathlib.Core.Path.{_≡_, refl, sym, ap, subst, _∙_}
 use mathlib.Core.List.{List, [], _∷_}
 use mathlib.Core.Option.{Option, none, some}
-use Prim.Native.Nat.{ℕ, _≤_, _<_}
+use Prim.Native.Nat.{ℕ, _<_}
 use native.Mathlib.Omega.{arith}
 use borrow.Author.Tests.{ltb-false}
 use lib.ListN.{length, getD}
 use Rattle.lists.specs.Checks.{first}
 use Rattle.lists.proofs.Checks.{first-none, first-passed}
 use Rattle.paper.specs.Table.{cells}
-use Rattle.plate.specs.Refusal.{Told, done, refused, refusal, Numbered, numbered, numberOf, toldBy}
+use Rattle.plate.specs.Refusal.{Told, done, refusal, Numbered, numbered, numberOf, toldBy}
 use Rattle.plate.specs.Settings.{settingsChecks}
 use Rattle.plate.specs.Call.{Call, Does}
 use Rattle.plate.specs.Head.{heldIn, clearedHead}
@@ -19,13 +19,13 @@ use Rattle.plate.specs.declared.head.Head.{Head}
 use Rattle.plate.specs.declared.refusal.Refusal.{Refusal}
 use Rattle.plate.proofs.Decided.{refused-first}
 use Rattle.plate.proofs.Calls.{refuses, works, unwritten, finished}
-use Rattle.table.specs.Table.{short, cleared, clearing}
+use Rattle.table.specs.Table.{short, clearing}
 use Rattle.table.specs.Plates.{tableOf}
 use Rattle.table.proofs.Plates.{cleared-is, length-table, table-again}
 use Rattle.record.specs.Faults.{tail}
 use Rattle.job.specs.File.{Job, Finished, wholeBy, wholeFile}
 use Rattle.job.proofs.Ordering.{ordered}
-use Rattle.load.specs.Load.{sizeChecks, frontOf, jobOf, loadingJob, loadingBy, loading}
+use Rattle.load.specs.Load.{tooLarge, frontOf, jobOf, loadingJob, loadingBy, loading}
 use Rattle.load.specs.Heeding.{Seen, frontJob, Cleared, filledBy}
 use Rattle.load.specs.declared.Load.{Load}
 
@@ -49,7 +49,7 @@ module _ (most : ℕ) (s : List ℕ) (byte : (i : ℕ) → getD s i 0 < 256) (lo
   call-is = ap (λ (t : Told Finished). loadingBy table (frontJob t)) (sym (w .is))
 
   fine : first (settingsChecks N T) ≡ none
-  fine = ordered (sizeChecks most) s byte (w .found) (w .is) .fine
+  fine = ordered (tooLarge most) s byte (w .found) (w .is) .fine
 
   -- clearing asks 3 alone, as the call does
   asks-same : first (clearing N T table .checks) ≡ first (call .checks)

@@ -18,7 +18,7 @@ use Rattle.record.specs.Bytes.{words}
 use Rattle.job.specs.Record.{What, settings, column, ended, remark}
 use Rattle.job.specs.File.{Job, Finished}
 use Rattle.job.specs.Reached.{Passes, Stops, Ends}
-use Rattle.load.specs.Load.{sizeChecks, loadOf}
+use Rattle.load.specs.Load.{tooLarge, loadOf}
 use Rattle.load.specs.declared.Load.{Load}
 use Rattle.load.specs.declared.Heed.{Heed}
 use Rattle.load.specs.declared.Heed.the-variants as heed
@@ -37,17 +37,17 @@ Sane (refused number place) = Unit {0}
 
 -- what a record means for the file that it stands in
 abbrev pub Heeded : Heed → ℕ → ℕ → Told What → Type 0
-Heeded heed.Onward most at t = Passes (sizeChecks most) at t
+Heeded heed.Onward most at t = Passes (tooLarge most) at t
 Heeded heed.Ended most at t = Ends t
-Heeded (heed.Refused r) most at t = Stops (sizeChecks most) at t (numberOf (r .reason)) (r .place)
+Heeded (heed.Refused r) most at t = Stops (tooLarge most) at t (numberOf (r .reason)) (r .place)
 
 -- what was read can be added to a table, where it is a column
-abbrev pub Addable : List ℕ → Head → List ℕ → Told What → Type 0
-Addable s head table (done (settings a)) = Unit {0}
-Addable s head table (done (column start count)) = (count ≤ mostBoundaries) × (first (adding (heldIn head table) (columnOf (words s start count)) .checks) ≡ none)
-Addable s head table (done (ended columns)) = Unit {0}
-Addable s head table (done remark) = Unit {0}
-Addable s head table (refused number place) = Unit {0}
+abbrev pub CanAdd : List ℕ → Head → List ℕ → Told What → Type 0
+CanAdd s head table (done (settings a)) = Unit {0}
+CanAdd s head table (done (column start count)) = (count ≤ mostBoundaries) × (first (adding (heldIn head table) (columnOf (words s start count)) .checks) ≡ none)
+CanAdd s head table (done (ended columns)) = Unit {0}
+CanAdd s head table (done remark) = Unit {0}
+CanAdd s head table (refused number place) = Unit {0}
 
 -- and what the table then holds
 abbrev pub addedAll : Head → List Column → List ℕ → List ℕ

@@ -1,6 +1,6 @@
 -- Reading a job file into a lent table: the file is judged whole, by its own order of refusals, with 17 straight after 1 and 2; then 3 where the
 -- table is too short; and only then it is written. Assumes nothing.
-use Prim.Native.Nat.{ℕ}
+use Prim.Native.Nat.{ℕ, _≤_}
 use mathlib.Core.Bool.{Bool, true, _||_}
 use mathlib.Core.List.{List, [], _∷_}
 use lib.Dec.{ltb}
@@ -12,6 +12,7 @@ use Rattle.plate.specs.Head.{heldIn, clearedHead}
 use Rattle.table.specs.Table.{short}
 use Rattle.table.specs.Plates.{tableOf, headOf}
 use Rattle.job.specs.File.{Job, Finished, Asking, jobFrom, wholeFile}
+use Rattle.job.specs.Reached.{Ordered}
 use Rattle.job.specs.declared.Asked.{Asked}
 use Rattle.load.specs.declared.Load.{Load}
 use Rattle.load.specs.declared.Loaded.{Loaded}
@@ -23,15 +24,21 @@ isLarge most a = ltb most (cells (a .height) (a .members)) || ltb most (entries 
 
 -- 'A table or sheet over 4,096 entries: 17 at the settings record, straight after 1 and 2 there and so before any fault of a later record':
 -- here for any number of entries
-unfoldable pub sizeChecks : ℕ → Asking
-sizeChecks most at a = check 17 (isLarge most a) at ∷ []
+unfoldable pub tooLarge : ℕ → Asking
+tooLarge most at a = check 17 (isLarge most a) at ∷ []
 
 -- the job at the front of these bytes, and the place past it; and a whole file
 abbrev pub frontOf : ℕ → List ℕ → Told Finished
-frontOf most s = jobFrom (sizeChecks most) s
+frontOf most s = jobFrom (tooLarge most) s
 
 abbrev pub jobOf : ℕ → List ℕ → Told Job
-jobOf most s = wholeFile (sizeChecks most) s
+jobOf most s = wholeFile (tooLarge most) s
+
+-- what a job that is not refused holds: it is in order, and its table and its sheets have no more entries
+pub record Fitting (most : ℕ) (job : Job) : Type 0 where
+  pub ordered : Ordered (tooLarge most) job
+  pub few-cells : cells (job .asked .height) (job .asked .members) ≤ most
+  pub few-entries : entries (job .asked .height) (job .asked .members) ≤ most
 
 -- ---- the call
 

@@ -14,7 +14,7 @@ ghost use Rattle.adding.specs.Adding.{adding};
 ghost use Rattle.job.specs.Record.{toldRead};
 ghost use Rattle.job.specs.File.{columnIn};
 ghost use Rattle.load.specs.Load.{isLarge, frontOf, jobOf, loading, toldLoad};
-ghost use Rattle.load.specs.Heeding.{Sane, Heeded, Addable, addedAll, Seen, Surveyed, frontJob, Cleared, filledBy};
+ghost use Rattle.load.specs.Heeding.{Sane, Heeded, CanAdd, addedAll, Seen, Surveyed, frontJob, Cleared, filledBy};
 use adding::add_column;
 use column::Column;
 use job::Asked;
@@ -146,7 +146,7 @@ fn add_at(input: &[u8], start: usize, count: usize, head: Head, table: &mut [u32
 
 // Adds what was read, where it is a column; it is never refused.
 fn add_read(input: &[u8], read: Read, head: Head, table: &mut [u32])
-    requires { ⌜ Addable (now input) head (now table) (toldRead read) ⌝ }
+    requires { ⌜ CanAdd (now input) head (now table) (toldRead read) ⌝ }
     ensures { λ _. ⌜ now (table .exit) ≡ addedAll head (columnIn (now (input .entry)) (toldRead read)) (now (table .entry)) ⌝ }
 {
     match read {

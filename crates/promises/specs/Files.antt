@@ -18,7 +18,7 @@ use Rattle.job.specs.Record.{What, settings, column, ended, remark, Moved, read
 use Rattle.job.specs.File.{Job}
 use Rattle.job.specs.Reached.{Stops, Ends}
 use Rattle.job.specs.declared.State.{State}
-use Rattle.load.specs.Load.{sizeChecks, jobOf, loadOf, loadAnswer, loadTable}
+use Rattle.load.specs.Load.{tooLarge, jobOf, loadOf, loadAnswer, loadTable}
 use Rattle.promises.specs.Runs.{Columns}
 
 -- ---- the first record at fault decides, over the places that are reached (crate `job`, Reached)
@@ -26,7 +26,7 @@ use Rattle.promises.specs.Runs.{Columns}
 -- the record there is at fault with this number and place: itself, or its settings are too large, or it is the end and bytes stand after it
 abbrev pub StopsFile : ℕ → List ℕ → State → ℕ → ℕ → ℕ → Type 0
 StopsFile most s st at number place =
-    Stops (sizeChecks most) at (readRecord s st at .told) number place
+    Stops (tooLarge most) at (readRecord s st at .told) number place
     ⊎ (Ends (readRecord s st at .told) × (first (tail s (readRecord s st at .next) ∷ []) ≡ some (record { number = number; place = place })))
 
 -- the place of that fault: the record's first byte, and for bytes after the end the first of them

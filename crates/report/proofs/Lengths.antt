@@ -14,8 +14,9 @@ use Rattle.paper.specs.Sequence.{M, error}
 use Rattle.plate.specs.Refusal.{Told, done, refused}
 use Rattle.text.specs.Numbers.{decimal, signed}
 use Rattle.text.proofs.Lengths.{decimal-length, signed-length}
-use Rattle.job.specs.File.{Job, jobOf}
-use Rattle.job.proofs.Ordering.{ordered}
+use Rattle.job.specs.File.{Job}
+use Rattle.load.specs.Load.{jobOf}
+use Rattle.load.proofs.Whole.{fitting}
 use Rattle.meaning.specs.Working.{found}
 use Rattle.meaning.proofs.Choice.{length-count, found-exact}
 use Rattle.promises.proofs.Fine.{settings-passed}
@@ -80,10 +81,10 @@ module _ (s : List ℕ) (byte : (i : ℕ) → getD s i 0 < 256) where
   job-length : (file : Told Job) → jobOf most s ≡ file → length (jobText file) ≤ 131_072
   job-length (refused number place) e = omega (arith, refused-length number place .fits)
   job-length (done job) e =
-      let o = ordered most s byte job e in
+      let o = fitting most s byte job e in
       let N = job .asked .height in
       let T = job .asked .members in
-      let k = few-counts N T (settings-passed N T (o .bits) (o .fine)) (o .few-entries) in
+      let k = few-counts N T (settings-passed N T (o .ordered .bits) (o .ordered .fine)) (o .few-entries) in
       let p = ofColumns N T (job .columns) in
       let a = lines-length (λ n. countLine p n (found p (job .asked .bound) n)) 0 (M N T) (λ n l u. count-length p (job .asked .bound) n l (omega arith)) in
       omega (arith, joined (head-length N (length (job .columns)) (M N T)) a .fits, k)

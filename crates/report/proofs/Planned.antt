@@ -8,50 +8,48 @@ use lib.ListN.{length}
 use Rattle.lists.proofs.Checks.{first-none, first-later}
 use Rattle.paper.specs.Sequence.{M}
 use Rattle.plate.specs.Refusal.{Told, told, numberOf}
-use Rattle.plate.specs.Settings.{settingsChecks}
+use Rattle.plate.specs.Call.{Does}
+use Rattle.plate.specs.Head.{heldIn, headChecks}
 use Rattle.plate.specs.declared.refusal.Answer.{Answer}
 use Rattle.plate.specs.declared.refusal.Answer.the-variants as answer
 use Rattle.plate.specs.declared.refusal.Refusal.{Refusal}
-use Rattle.plate.proofs.Decided.{told-done}
+use Rattle.plate.proofs.Calls.{finished}
 use Rattle.job.specs.File.{Job}
-use Rattle.job.specs.Load.{toldLoad, loadAnswer, loadTable}
-use Rattle.job.specs.declared.Load.{Load}
-use Rattle.job.specs.declared.Loaded.{Loaded}
-use Rattle.job.specs.declared.Loaded.the-variants as loaded
-use Rattle.plan.specs.Plan.{Sheets, planRest, planAnswer, planSheets}
+use Rattle.load.specs.Load.{toldLoad, loading}
+use Rattle.load.specs.declared.Load.{Load}
+use Rattle.load.specs.declared.Loaded.{Loaded}
+use Rattle.load.specs.declared.Loaded.the-variants as loaded
+use Rattle.plan.specs.Plan.{Sheets, planRest, planning}
 use Rattle.report.specs.Lines.{refusedLine}
 use Rattle.report.specs.Work.{blankSheets, sheetsText, plannedBy, plannedText, loadedBy, fileText}
 
-module _ (l : Load) (table : List ℕ) (lent left : Sheets) (r : Answer)
-    (tells : told r ≡ planAnswer (l .asked .height) (l .asked .members) (l .tally .columns) table lent)
-    (leaves : left ≡ planSheets (l .asked .height) (l .asked .members) (l .tally .columns) table (l .asked .bound) lent) where
-  by-answer : (x : Answer) → r ≡ x → plannedBy l (told x) left ≡ plannedText l table lent
+module _ (l : Load) (table : List ℕ) (lent left : Sheets) (r : Answer) (d : Does (planning (heldIn (l .head) table) (l .bound) lent) (told r) left) where
+  by-answer : (x : Answer) → r ≡ x → plannedBy (l .head) (told x) left ≡ plannedText l table lent
   unfolding plannedText
-  by-answer x e = ap₂ (plannedBy l) (ap told (sym e) ∙ tells) leaves
+  by-answer x e = ap₂ (plannedBy (l .head)) (ap told (sym e) ∙ d .tells) (d .leaves)
 
   pub plan-refused : (refusal : Refusal) → r ≡ answer.Refused refusal → refusedLine (numberOf (refusal .reason)) (refusal .place) ≡ plannedText l table lent
   plan-refused refusal e = by-answer (answer.Refused refusal) e
 
   module _ (counts : ℕ) (e : r ≡ answer.Done counts) where
-    pub plan-done : sheetsText (l .asked .height) (l .asked .members) (l .tally .columns) counts (left .errors) (left .thicknesses) ≡ plannedText l table lent
+    pub plan-done : sheetsText (l .head) counts (left .errors) (left .thicknesses) ≡ plannedText l table lent
     plan-done = by-answer (answer.Done counts) e
 
     -- the list has room for every count
     pub counted : counts ≤ length (lent .leasts)
-    unfolding planAnswer planRest
+    unfolding planning planRest
     counted =
-        let N = l .asked .height in
-        let T = l .asked .members in
-        let rest = planRest N T (l .tally .columns) table lent in
-        let d = told-done _ (M N T) counts (sym tells ∙ ap told e) in
-        let q = first-none rest .0 (first-later (settingsChecks N T) rest (d .0)) in
-        let l = ltb-false (length (lent .leasts)) (M N T) (q .1 .1 .1 .0) in
-        omega (arith, d .1)
+        let held = heldIn (l .head) table in
+        let rest = planRest held (length (lent .errors)) (length (lent .thicknesses)) (length (lent .leasts)) in
+        let f = finished (planning held (l .bound) lent) counts (sym (d .tells) ∙ ap told e) in
+        let q = first-none rest .0 (first-later (headChecks (l .head)) rest (f .0)) in
+        let l = ltb-false (length (lent .leasts)) (M (l .head .height) (l .head .members)) (q .1 .1 .1 .0) in
+        omega (arith, f .1)
 
-module _ (file : Told Job) (lent table : List ℕ) (r : Loaded) (tells : toldLoad r ≡ loadAnswer lent file) (leaves : table ≡ loadTable lent file) where
+module _ (file : Told Job) (lent table : List ℕ) (r : Loaded) (d : Does (loading lent file) (toldLoad r) table) where
   by-load : (x : Loaded) → r ≡ x → loadedBy (toldLoad x) table ≡ fileText file lent
   unfolding fileText
-  by-load x e = ap₂ loadedBy (ap toldLoad (sym e) ∙ tells) leaves
+  by-load x e = ap₂ loadedBy (ap toldLoad (sym e) ∙ d .tells) (d .leaves)
 
   pub load-refused : (refusal : Refusal) → r ≡ loaded.Refused refusal → refusedLine (numberOf (refusal .reason)) (refusal .place) ≡ fileText file lent
   load-refused refusal e = by-load (loaded.Refused refusal) e

@@ -5,25 +5,28 @@ use mathlib.Core.Logic.{inl, inr}
 use mathlib.Core.Bool.{Bool, true, false}
 use mathlib.Core.List.{List, _++_}
 use Prim.Native.Nat.{ℕ, zero, suc, _+_, _≤_, _<_}
-use native.Mathlib.Nat.{mul-le-mul, div-le-self}
+use native.Mathlib.Nat.{mul-le-mul}
 use native.Mathlib.Omega.{arith}
 use borrow.Author.Tests.{ltb-true, ltb-false}
 use lib.Dec.{ltb}
 use lib.IntN.{ℤ, pos}
 use lib.ListN.{length, getD, take, length-replicate}
 use Rattle.paper.specs.Layer as paper
-use Rattle.paper.specs.Layer.{Plate, tmin, ofColumns}
+use Rattle.paper.specs.Layer.{Plate, ofColumns}
 use Rattle.paper.specs.Table.{rows, InBounds}
 use Rattle.paper.specs.Sequence.{M, error}
 use Rattle.paper.specs.Sheets.{entries}
+use Rattle.paper.proofs.Counts.{counts-rows}
 use Rattle.plate.specs.Refusal.{Told, done, refused}
 use Rattle.plate.specs.Settings.{Sound, settingsOf}
 use Rattle.plate.proofs.Sizes.{sound}
-use Rattle.table.specs.Tabled.{tallyOf}
-use Rattle.job.specs.File.{Job, jobOf}
-use Rattle.job.specs.Load.{loadOf, loadAnswer, loadTable}
-use Rattle.job.proofs.Ordering.{ordered}
-use Rattle.plan.specs.Plan.{Sheets, planSheets}
+use Rattle.plate.specs.Call.{leftBy}
+use Rattle.plate.specs.Head.{heldIn}
+use Rattle.job.specs.File.{Job}
+use Rattle.load.specs.Load.{jobOf, Fitting, loadOf, loading, loadTable}
+use Rattle.load.specs.declared.Load.{Load}
+use Rattle.load.proofs.Whole.{fitting}
+use Rattle.plan.specs.Plan.{Sheets, planning}
 use Rattle.meaning.specs.Working.{found}
 use Rattle.meaning.proofs.Choice.{length-count, found-exact, found-none}
 use Rattle.promises.specs.Plans.{Answers}
@@ -67,7 +70,7 @@ few-counts N T s e = go (ltb 63 (M N T)) refl
     go false f = ltb-false 63 (M N T) f
     go true f =
         let l = ltb-true 63 (M N T) f in
-        let d : M N T ≤ rows N T = (let x = div-le-self (rows N T) (tmin T) in omega (arith, k .counts-are)) in
+        let d = counts-rows N T (s .least-height) (s .some-thickness) in
         let m = mul-le-mul {n₁ = 65} {m₁ = 65} {n₂ = rows N T + 1} {m₂ = M N T + 1} (omega arith) (omega arith) in
         absurd (omega (arith, k .entries-are, m, e))
 
@@ -84,45 +87,46 @@ module _ (s : List ℕ) (byte : (i : ℕ) → getD s i 0 < 256) (job : Job) (is 
   abbrev table : List ℕ
   table = loadTable blankTable (jobOf most s)
 
+  fits : Fitting most job
+  fits = fitting most s byte job is
+
   read : FileRead most s job blankTable
-  read = file-tabulated job blankTable (omega (arith, ordered most s byte job is .few-cells, length-replicate {A = ℕ} 4096 0)) most s byte is
+  read = file-tabulated job blankTable (omega (arith, fits .few-cells, length-replicate {A = ℕ} most 0)) most s byte is
 
   bounds : InBounds N T (length (job .columns)) table
-  bounds = tabulated-bounds N T (job .columns) (record { tally = tallyOf (length (job .columns)); buffer = table }) (read .few) (record { table = read .table; counted = refl })
+  bounds = tabulated-bounds N T (job .columns) (heldIn (loadOf job .head) table) (read .few) (record { table = read .table; goes = refl }) .bounds
 
   room : Room N T blankSheets
-  room =
-      let o = ordered most s byte job is in
-      record {
-        errors = omega (arith, o .few-entries, length-replicate {A = ℕ} 4096 0);
-        thicknesses = omega (arith, o .few-entries, length-replicate {A = ℕ} 4096 0);
-        leasts = omega (arith, few-counts N T (read .settings) (o .few-entries), length-replicate {A = ℕ} 63 0);
-      }
+  room = record {
+    errors = omega (arith, fits .few-entries, length-replicate {A = ℕ} most 0);
+    thicknesses = omega (arith, fits .few-entries, length-replicate {A = ℕ} most 0);
+    leasts = omega (arith, few-counts N T (read .settings) (fits .few-entries), length-replicate {A = ℕ} 63 0);
+  }
 
   abbrev left : Sheets
-  left = planSheets N T (length (job .columns)) table (job .asked .bound) blankSheets
+  left = leftBy (planning (heldIn (loadOf job .head) table) (job .asked .bound) blankSheets)
 
   lines : (n : ℕ) → 0 < n → n ≤ M N T → sheetLine N T (left .errors) (left .thicknesses) blankSequence n ≡ countLine plate n (found plate (job .asked .bound) n)
   unfolding sheetLine
   lines n low high =
       line-is plate (job .asked .bound) n low _ blankSequence _
       (answers-columns N T (job .columns) table (read .table) (job .asked .bound) n _ blankSequence _
-      (demand-2 N T (read .settings) (length (job .columns)) table (job .asked .bound) blankSheets bounds (ordered most s byte job is .low-bound) room n low high blankSequence
-      (omega (arith, few-counts N T (read .settings) (ordered most s byte job is .few-entries), length-replicate {A = ℤ} 64 (pos 0)))))
+      (demand-2 N T (read .settings) (length (job .columns)) table bounds (job .asked .bound) blankSheets (fits .ordered .low-bound) room n low high blankSequence
+      (omega (arith, few-counts N T (read .settings) (fits .few-entries), length-replicate {A = ℤ} 64 (pos 0)))))
 
   planned : plannedText (loadOf job) table blankSheets ≡ plateText N T (job .asked .bound) (job .columns)
   unfolding plannedText sheetsText
   planned =
-      ap (λ (x : Told ℕ). plannedBy (loadOf job) x left) (plan-done N T (read .settings) (length (job .columns)) table blankSheets bounds room)
+      ap (λ (x : Told ℕ). plannedBy (loadOf job .head) x left) (plan-done N T (read .settings) (length (job .columns)) table bounds (job .asked .bound) blankSheets room)
       ∙ ap (λ (t : List ℕ). headLine N (length (job .columns)) (M N T) ++ t) (lines-same _ _ 0 (M N T) (λ n low high. lines n low (omega arith)))
 
   job-printed : fileText (jobOf most s) blankTable ≡ jobText (jobOf most s)
   unfolding fileText
-  job-printed = ap (λ (x : Told _). loadedBy x table) (read .answer) ∙ planned ∙ ap jobText (sym is)
+  job-printed = ap (λ (x : Told Load). loadedBy x table) (read .answer) ∙ planned ∙ ap jobText (sym is)
 
 -- WHAT IS PRINTED for a file of bytes
 pub printed : (s : List ℕ) → ((i : ℕ) → getD s i 0 < 256) → fileText (jobOf most s) blankTable ≡ jobText (jobOf most s)
-unfolding fileText loadAnswer
+unfolding fileText loading
 printed s byte = go (jobOf most s) refl
   where
     go : (file : Told Job) → jobOf most s ≡ file → fileText (jobOf most s) blankTable ≡ jobText (jobOf most s)

@@ -7,11 +7,12 @@ use mathlib.Core.Option.{Option, none, some}
 use lib.Dec.{ltb}
 use lib.IntN.{ℤ}
 use lib.ListN.{length}
-use Rattle.paper.specs.Layer.{Plate, ofColumns}
+use Rattle.paper.specs.Layer.{Plate, Column, ofColumns}
 use Rattle.paper.specs.Sequence.{M, error}
 use Rattle.plate.specs.Refusal.{Told, done, refused}
 use Rattle.text.specs.Numbers.{decimal, signed}
-use Rattle.job.specs.File.{Job, jobOf}
+use Rattle.job.specs.File.{Job}
+use Rattle.load.specs.Load.{jobOf}
 use Rattle.meaning.specs.Working.{found}
 
 -- `refused `
@@ -80,7 +81,7 @@ unfoldable pub countLines : (ℕ → List ℕ) → ℕ → ℕ → List ℕ
 countLines line n zero = []
 countLines line n (suc k) = line (suc n) ++ countLines line (suc n) k
 
-abbrev pub plateText : ℕ → ℕ → ℕ → List (List ℕ) → List ℕ
+abbrev pub plateText : ℕ → ℕ → ℕ → List Column → List ℕ
 plateText N T bound columns =
     headLine N (length columns) (M N T)
     ++ countLines (λ n. countLine (ofColumns N T columns) n (found (ofColumns N T columns) bound n)) 0 (M N T)

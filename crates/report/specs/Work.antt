@@ -3,21 +3,24 @@
 use Prim.Native.Nat.{ℕ, _+_}
 use mathlib.Core.List.{List, _++_}
 use lib.IntN.{ℤ, pos}
-use lib.ListN.{length, take, replicate}
+use lib.ListN.{take, replicate}
 use Rattle.plate.specs.Refusal.{Told, done, refused}
+use Rattle.plate.specs.Call.{answerOf, leftBy}
+use Rattle.plate.specs.Head.{heldIn}
+use Rattle.plate.specs.declared.head.Head.{Head}
 use Rattle.job.specs.File.{Job}
-use Rattle.job.specs.Load.{loadAnswer, loadTable}
-use Rattle.job.specs.declared.Load.{Load}
-use Rattle.plan.specs.Plan.{Sheets, sheetsOf, planAnswer, planSheets}
-use Rattle.plan.specs.Reading.{readAnswer, readOut}
-use Rattle.report.specs.Lines.{refusedLine, headLine, noneLine, sequenceLine, countLines}
+use Rattle.load.specs.Load.{loadAnswer, loadTable}
+use Rattle.load.specs.declared.Load.{Load}
+use Rattle.plan.specs.Plan.{Sheets, sheetsOf, planning}
+use Rattle.readback.specs.Reading.{reading}
+use Rattle.report.specs.Lines.{most, refusedLine, headLine, noneLine, sequenceLine, countLines}
 
 -- the buffers of the program: a table, two sheets, a list and a sequence
 abbrev pub blankTable : List ℕ
-blankTable = replicate 4096 0
+blankTable = replicate most 0
 
 abbrev pub blankSheets : Sheets
-blankSheets = sheetsOf (replicate 4096 0) (replicate 4096 0) (replicate 63 0)
+blankSheets = sheetsOf (replicate most 0) (replicate most 0) (replicate 63 0)
 
 abbrev pub blankSequence : List ℤ
 blankSequence = replicate 64 (pos 0)
@@ -28,21 +31,21 @@ readLine n (done e) out = sequenceLine n e (take (n + 1) out)
 readLine n (refused number place) out = noneLine n
 
 unfoldable pub sheetLine : ℕ → ℕ → List ℕ → List ℕ → List ℤ → ℕ → List ℕ
-sheetLine N T errors thicknesses old n = readLine n (readAnswer N T errors thicknesses n (length old)) (readOut N T errors thicknesses n old)
+sheetLine N T errors thicknesses old n = readLine n (answerOf (reading N T errors thicknesses n old)) (leftBy (reading N T errors thicknesses n old))
 
 -- the plate's lines from its sheets
-unfoldable pub sheetsText : ℕ → ℕ → ℕ → ℕ → List ℕ → List ℕ → List ℕ
-sheetsText N T columns counts errors thicknesses = headLine N columns counts ++ countLines (sheetLine N T errors thicknesses blankSequence) 0 counts
+unfoldable pub sheetsText : Head → ℕ → List ℕ → List ℕ → List ℕ
+sheetsText head counts errors thicknesses =
+    headLine (head .height) (head .columns) counts ++ countLines (sheetLine (head .height) (head .members) errors thicknesses blankSequence) 0 counts
 
 -- a job whose table was read
-abbrev pub plannedBy : Load → Told ℕ → Sheets → List ℕ
-plannedBy l (done counts) left = sheetsText (l .asked .height) (l .asked .members) (l .tally .columns) counts (left .errors) (left .thicknesses)
-plannedBy l (refused number place) left = refusedLine number place
+abbrev pub plannedBy : Head → Told ℕ → Sheets → List ℕ
+plannedBy head (done counts) left = sheetsText head counts (left .errors) (left .thicknesses)
+plannedBy head (refused number place) left = refusedLine number place
 
 unfoldable pub plannedText : Load → List ℕ → Sheets → List ℕ
 plannedText l table lent =
-    plannedBy l (planAnswer (l .asked .height) (l .asked .members) (l .tally .columns) table lent)
-    (planSheets (l .asked .height) (l .asked .members) (l .tally .columns) table (l .asked .bound) lent)
+    plannedBy (l .head) (answerOf (planning (heldIn (l .head) table) (l .bound) lent)) (leftBy (planning (heldIn (l .head) table) (l .bound) lent))
 
 -- a file that is read into a table
 abbrev pub loadedBy : Told Load → List ℕ → List ℕ

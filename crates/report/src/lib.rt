@@ -6,19 +6,23 @@ ghost use Rattle.paper.specs.Sequence.{_!_};
 ghost use Rattle.plate.specs.Refusal.{numberOf};
 ghost use Rattle.text.specs.Sink.{sink, put, laidOver};
 ghost use Rattle.plan.specs.Plan.{sheetsOf};
-ghost use Rattle.job.specs.File.{jobOf};
+ghost use Rattle.load.specs.Load.{jobOf};
 ghost use Rattle.report.specs.Lines.{most, refusedLine, headLine, boundaryText, boundariesText, noneLine, sequenceLine, countLines, planText};
 ghost use Rattle.report.specs.Work.{blankTable, blankSequence, blankSheets, sheetLine, sheetsText, plannedText, fileText};
-use job::Load;
-use job::Loaded;
-use job::read_job;
+use load::Load;
+use load::Loaded;
+use load::read_job;
 use plan::plan;
-use plan::read_back;
+use plate::head::Head;
 use plate::refusal::Answer;
 use plate::refusal::Refusal;
+use readback::read_back;
 use text::put_number;
 use text::put_signed;
 use text::put_text;
+
+// The most bytes of a job, and entries of its table and of each of its sheets.
+const MOST: usize = 4096;
 
 fn put_refused(out: &mut [u8], number: u32, place: u64) -> usize
     ensures { λ r. ⌜ sink r (now (out .exit)) ≡ put (refusedLine number place) (sink 0 (now (out .entry))) ⌝ }
@@ -160,18 +164,16 @@ fn put_counts(
 }
 
 // All lines of a plate, from its sheets.
-fn put_sheets(out: &mut [u8], load: Load, counts: u32, errors: &[u64], thicknesses: &[u8]) -> usize
+fn put_sheets(out: &mut [u8], head: Head, counts: u32, errors: &[u64], thicknesses: &[u8]) -> usize
     requires { ⌜ counts < 64 ⌝ }
-    ensures { λ r. ⌜ sink r (now (out .exit)) ≡ put (sheetsText (load .asked .height) (load .asked .members) (load .tally .columns) counts (now (errors .entry)) (now (thicknesses .entry))) (sink 0 (now (out .entry))) ⌝ }
+    ensures { λ r. ⌜ sink r (now (out .exit)) ≡ put (sheetsText head counts (now (errors .entry)) (now (thicknesses .entry))) (sink 0 (now (out .entry))) ⌝ }
 {
-    let asked = load.asked;
-    let tally = load.tally;
-    let at = put_head(out, asked.height, tally.columns, counts as u64);
+    let at = put_head(out, head.height, head.columns, counts as u64);
     put_counts(
         out,
         at,
-        asked.height,
-        asked.members,
+        head.height,
+        head.members,
         errors,
         thicknesses,
         counts,
@@ -190,28 +192,19 @@ fn put_plan(
     requires { ⌜ length (now list) ≤ 63 ⌝ }
     ensures { λ r. ⌜ sink r (now (out .exit)) ≡ put (plannedText load (now (table .entry)) (sheetsOf (now (errors .entry)) (now (thicknesses .entry)) (now (list .entry)))) (sink 0 (now (out .entry))) ⌝ }
 {
-    let asked = load.asked;
-    let answer = plan(
-        table,
-        asked.height,
-        asked.members,
-        load.tally,
-        asked.bound,
-        errors,
-        thicknesses,
-        list,
-    );
+    let head = load.head;
+    let answer = plan(table, head, load.bound, errors, thicknesses, list);
     match answer {
         Answer::Refused(refusal) => put_refusal(out, refusal),
-        Answer::Done(counts) => put_sheets(out, load, counts as u32, errors, thicknesses),
+        Answer::Done(counts) => put_sheets(out, head, counts as u32, errors, thicknesses),
     }
 }
 
 fn put_load(out: &mut [u8], load: Load, table: &[u32]) -> usize
     ensures { λ r. ⌜ sink r (now (out .exit)) ≡ put (plannedText load (now (table .entry)) blankSheets) (sink 0 (now (out .entry))) ⌝ }
 {
-    let mut errors = [0u64; 4096];
-    let mut thicknesses = [0u8; 4096];
+    let mut errors = [0u64; MOST];
+    let mut thicknesses = [0u8; MOST];
     let mut list = [0u64; 63];
     put_plan(out, load, table, &mut errors, &mut thicknesses, &mut list)
 }
@@ -220,7 +213,7 @@ fn put_load(out: &mut [u8], load: Load, table: &[u32]) -> usize
 fn put_file(input: &[u8], out: &mut [u8], table: &mut [u32]) -> usize
     ensures { λ r. ⌜ sink r (now (out .exit)) ≡ put (fileText (jobOf most (now (input .entry))) (now (table .entry))) (sink 0 (now (out .entry))) ⌝ }
 {
-    let loaded = read_job(input, 4096, table);
+    let loaded = read_job(input, MOST, table);
     match loaded {
         Loaded::Refused(refusal) => put_refusal(out, refusal),
         Loaded::Done(load) => put_load(out, load, table),
@@ -230,7 +223,7 @@ fn put_file(input: &[u8], out: &mut [u8], table: &mut [u32]) -> usize
 fn put_job(input: &[u8], out: &mut [u8]) -> usize
     ensures { λ r. ⌜ sink r (now (out .exit)) ≡ put (fileText (jobOf most (now (input .entry))) blankTable) (sink 0 (now (out .entry))) ⌝ }
 {
-    let mut table = [0u32; 4096];
+    let mut table = [0u32; MOST];
     put_file(input, out, &mut table)
 }
 
@@ -240,7 +233,7 @@ pub fn plan_text(input: &[u8], out: &mut [u8]) -> usize
     ensures { λ r. ⌜ (r ≡ min (length (planText (now (input .entry)))) (length (now (out .entry)))) × (now (out .exit) ≡ laidOver (planText (now (input .entry))) (now (out .entry))) ⌝ }
     ensures { λ r. ⌜ (131072 ≤ length (now (out .entry)) → take r (now (out .exit)) ≡ planText (now (input .entry))) ⌝ }
 {
-    if 4096 < input.len() {
+    if MOST < input.len() {
         return put_refused(out, 17, 0);
     }
     put_job(input, out)

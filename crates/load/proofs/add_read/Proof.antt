@@ -15,13 +15,13 @@ use Rattle.job.specs.Record.{toldRead}
 use Rattle.job.specs.File.{columnIn}
 use Rattle.job.specs.declared.Read.{Read}
 use Rattle.job.specs.declared.Read.the-variants as read
-use Rattle.load.specs.Heeding.{Addable, addedAll}
+use Rattle.load.specs.Heeding.{CanAdd, addedAll}
 use Rattle.load.proofs.add_read.Statement.{statement}
 use Rattle.load.proofs.add_read.Tie as tie
 
-module _ (s : List ℕ) (head : Head) (r : Read) (old : List ℕ) (start count : ℕ) (e : r ≡ read.Column start count) (p : Addable s head old (toldRead r)) where
-  can : Addable s head old (toldRead (read.Column start count))
-  can = subst (λ (x : Read). Addable s head old (toldRead x)) e p
+module _ (s : List ℕ) (head : Head) (r : Read) (old : List ℕ) (start count : ℕ) (e : r ≡ read.Column start count) (p : CanAdd s head old (toldRead r)) where
+  can : CanAdd s head old (toldRead (read.Column start count))
+  can = subst (λ (x : Read). CanAdd s head old (toldRead x)) e p
 
   -- it was added, since none of the refusals was given
   one-added : (answer : Told Head) (new : List ℕ) → Does (adding (heldIn head old) (columnOf (words s start count))) answer new → new ≡ addedAll head (columnIn s (toldRead r)) old

@@ -1,7 +1,7 @@
 -- `fill` meets its contract. The invariant of its loop: the place of the cursor is reached, and the table is that of the columns on the way
 -- there. Assumes nothing.
 use borrow.Author.Needs.{needs}
-use Prim.Native.Nat.{ℕ, _-_}
+use Prim.Native.Nat.{_-_}
 use native.Mathlib.Omega.{arith}
 use lib.ListN.{length}
 use Rattle.load.proofs.Heeding.{read-sane, ahead}

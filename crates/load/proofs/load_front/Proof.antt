@@ -1,7 +1,7 @@
 -- `load_front` meets its contract: a table that is too short is not cleared, and one that was cleared is filled. Assumes nothing.
 use borrow.Author.Needs.{needs}
 use native.Mathlib.Omega.{arith}
-use mathlib.Core.Path.{_≡_, ap}
+use mathlib.Core.Path.{ap}
 use Prim.Native.Nat.{ℕ, _<_}
 use lib.ListN.{getD}
 use denote.Ref.{now}

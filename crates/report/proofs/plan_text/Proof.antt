@@ -10,7 +10,7 @@ use lib.ListN.{length, getD, take}
 use denote.Ref.{now}
 use Rattle.text.specs.Sink.{Sink, sink, put, laidOver}
 use Rattle.text.proofs.Laws.{put-start, laid-whole}
-use Rattle.job.specs.File.{jobOf}
+use Rattle.load.specs.Load.{jobOf}
 use Rattle.report.specs.Lines.{most, refusedLine, planText}
 use Rattle.report.specs.Work.{blankTable, fileText}
 use Rattle.report.proofs.Printed.{printed}

@@ -14,14 +14,14 @@ returns c =
     let a = c .before .before .before .before .before .before .before .before .before .before .before .before .before .before .args in
     let e = c .before .before .before .before .before .before .before .before .before .read-job .ensures in
     c .before .before .put-refusal .ensures
-    ∙ ap (λ (t : List ℕ). put t (sink 0 (now (a .out)))) (load-refused _ _ _ _ (e .0) (e .1) (c .before .before .before .before .before .loaded .given .0 .0) (c .before .before .before .before .before .loaded .given .1))
+    ∙ ap (λ (t : List ℕ). put t (sink 0 (now (a .out)))) (load-refused _ _ _ _ e (c .before .before .before .before .before .loaded .given .0 .0) (c .before .before .before .before .before .loaded .given .1))
 
 returns-2 : tie.Need-returns-2
 returns-2 c =
     let a = c .before .before .before .before .before .before .before .before .before .before .before .before .before .before .before .args in
     let e = c .before .before .before .before .before .before .before .before .before .before .read-job .ensures in
     c .before .before .put-load .ensures
-    ∙ ap (λ (t : List ℕ). put t (sink 0 (now (a .out)))) (load-done _ _ _ _ (e .0) (e .1) _ (c .before .before .before .before .before .before .loaded2 .given .1))
+    ∙ ap (λ (t : List ℕ). put t (sink 0 (now (a .out)))) (load-done _ _ _ _ e _ (c .before .before .before .before .before .before .loaded2 .given .1))
 
 pub put-file-spec : {M : Type 1} → statement M
 put-file-spec =

@@ -14,14 +14,14 @@ returns c =
     let a = c .before .before .before .before .before .before .before .before .before .before .before .before .before .before .args in
     let e = c .before .before .before .before .before .before .before .before .before .read-back .ensures in
     c .before .before .put-sequence .ensures
-    ∙ ap (λ (t : List ℕ). put t (sink (a .at) (now (a .out)))) (read-done _ _ _ _ _ _ _ _ (e .0) (e .1) _ (c .before .before .before .before .before .before .answer .given .1))
+    ∙ ap (λ (t : List ℕ). put t (sink (a .at) (now (a .out)))) (read-done _ _ _ _ _ _ _ _ e _ (c .before .before .before .before .before .before .answer .given .1))
 
 returns-2 : tie.Need-returns-2
 returns-2 c =
     let a = c .before .before .before .before .before .before .before .before .before .before .before .before .args in
     let e = c .before .before .before .before .before .before .before .read-back .ensures in
     c .before .before .put-none .ensures
-    ∙ ap (λ (t : List ℕ). put t (sink (a .at) (now (a .out)))) (read-none _ _ _ _ _ _ _ _ (e .0) (e .1) _ (c .before .before .before .before .enum-told .given .1))
+    ∙ ap (λ (t : List ℕ). put t (sink (a .at) (now (a .out)))) (read-none _ _ _ _ _ _ _ _ e _ (c .before .before .before .before .enum-told .given .1))
 
 pub put-read-spec : {M : Type 1} → statement M
 put-read-spec =

@@ -1,14 +1,12 @@
 -- `Cursor::read` meets its contract: past the end record what is left decides; otherwise the frame, by the kind that the number is, and then
 -- the body. Assumes nothing.
 use borrow.Author.Needs.{needs}
-use mathlib.Core.Path.{_≡_, sym, ap, _∙_, subst}
+use mathlib.Core.Path.{_≡_, sym, ap, _∙_}
 use mathlib.Core.Bool.{Bool}
 use mathlib.Core.List.{List}
-use mathlib.Core.Option.{Option, none}
 use Prim.Native.Nat.{ℕ}
 use denote.Ref.{now}
 use Rattle.lists.specs.Checks.{first}
-use Rattle.plate.specs.Refusal.{Numbered}
 use Rattle.plate.specs.Checked.{saidBy}
 use Rattle.plate.specs.declared.refusal.Checked.{Checked}
 use Rattle.record.specs.Frame.{lengthAt, kindAt}
