@@ -1,7 +1,7 @@
 -- Columns of a job that was looked through, added to a table that was cleared. At every place that is reached the table is that of the columns
 -- on the way there, and the state's head goes with it; the next column was in order when it was read, so that adding it is never refused.
 -- Assumes nothing.
-use mathlib.Core.Path.{_≡_, refl, sym, ap, subst, _∙_}
+use mathlib.Core.Path.{_≡_, refl, sym, ap, ap₂, subst, _∙_}
 use mathlib.Core.Bool.{true}
 use mathlib.Core.List.{List, [], _∷_, _++_, append-nil}
 use mathlib.Core.Option.{none}
@@ -16,16 +16,11 @@ use Rattle.paper.specs.Limits.{mostBoundaries}
 use Rattle.paper.specs.Layer.{Column, columnOf}
 use Rattle.paper.specs.Table.{cells}
 use Rattle.plate.specs.Refusal.{Told, done, refused, refusal}
-<<<<<<< HEAD
-use Rattle.plate.specs.Head.{Held, heldIn, headFor}
-use Rattle.plate.specs.declared.head.Head.{Head}
-=======
 use Rattle.plate.specs.Head.{Held, heldIn}
->>>>>>> refs/heads/job
 use Rattle.plate.specs.declared.refusal.Refusal.{Refusal}
 use Rattle.plate.proofs.Heads.{not-full}
 use Rattle.column.specs.Order.{columnChecks}
-use Rattle.table.specs.Plates.{tableOf, plateHeld}
+use Rattle.table.specs.Plates.{tableOf, headOf, plateHeld}
 use Rattle.table.proofs.Plates.{length-table}
 use Rattle.adding.specs.Adding.{adding, added}
 use Rattle.adding.proofs.Plates.{added-is, adds}
@@ -44,7 +39,7 @@ use Rattle.load.specs.Load.{tooLarge, frontOf}
 use Rattle.load.specs.Heeding.{Heeded, CanAdd, addedAll, Cleared, filledBy}
 use Rattle.load.specs.declared.Heed.{Heed}
 use Rattle.load.specs.declared.Heed.the-variants as heed
-use Rattle.load.proofs.Heeding.{means, ends, refuses}
+use Rattle.load.proofs.Heeding.{head-there, means, ends, refuses}
 
 few-boundaries : (N : ℕ) (s : List ℕ) (from count : ℕ) → first (columnChecks N (words s from count)) ≡ none → count ≤ mostBoundaries
 unfolding columnChecks
@@ -109,10 +104,9 @@ module _ (most : ℕ) (s old : List ℕ) where
       -- once settings were read, the table and the state's head are those of the columns so far
       held-is : st .begun ≡ true → plateHeld N T columns old ≡ heldIn (st .head) table
       held-is b =
-          let a = asks-for (tooLarge most) s (f .reached) b job is in
-          let n = under (tooLarge most) s (f .reached) .counts in
-          let t : table ≡ tableOf N T columns old = f .table-is ∙ ap (λ (t : Told Finished). tableBy t columns old) is in
-          λ i. heldIn (headFor (a i .height) (a i .members) (sym n i)) (sym t i)
+          ap₂ heldIn
+          (ap (λ (a : Asked). headOf (a .height) (a .members) columns) (asks-for (tooLarge most) s (f .reached) b job is) ∙ head-there most s (f .reached))
+          (sym (f .table-is ∙ ap (λ (t : Told Finished). tableBy t columns old) is))
 
       addable-by : (m : Moved) (t : Told What) → SaysBy s st at m t → CanAdd s (st .head) table t
       addable-by m (done (settings a)) q = tt

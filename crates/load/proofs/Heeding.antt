@@ -4,13 +4,12 @@ use mathlib.Core.Path.{_≡_, refl, sym, ap, subst, _∙_}
 use mathlib.Core.Bool.{true, false}
 use mathlib.Core.List.{List}
 use Prim.Native.Nat.{ℕ}
-use lib.ListN.{length}
-use Rattle.lists.specs.Checks.{first}
-use Rattle.plate.specs.Head.{headFor}
 use Rattle.plate.specs.Refusal.{Told, done, refused, refusal, numberOf}
+use Rattle.plate.specs.declared.head.Head.{Head}
 use Rattle.plate.specs.declared.refusal.Reason.{Reason}
 use Rattle.plate.specs.declared.refusal.Reason.the-variants as reason
 use Rattle.plate.specs.declared.refusal.Refusal.{Refusal}
+use Rattle.table.specs.Plates.{headOf}
 use Rattle.job.specs.State.{askedOf}
 use Rattle.job.specs.Record.{What, settings, column, ended, remark, Moved, readRecord, toldRead}
 use Rattle.job.specs.Reached.{Passes, Stops, Reached, further, columnsTo}
@@ -54,7 +53,13 @@ sane s st at m (refused number place) q = tt
 pub read-sane : (s : List ℕ) (st : State) (at : ℕ) (m : Moved) → m ≡ readRecord s st at → Sane (m .told)
 read-sane s st at m e = sane s st at m (m .told) (says-of s st at m e)
 
--- ---- the record at a place that is reached
+-- ---- a place that is reached
+
+-- the state's head goes with the table of the columns on the way there
+pub head-there : (most : ℕ) (s : List ℕ) {st : State} {at : ℕ} (r : Reached (tooLarge most) s st at) → headOf (st .head .height) (st .head .members) (columnsTo r) ≡ st .head
+head-there most s {st} r = λ i. record { height = st .head .height; members = st .head .members; columns = sym (under (tooLarge most) s r .counts) i }
+
+-- the record there
 
 module _ (most : ℕ) (s : List ℕ) {st : State} {at : ℕ} (r : Reached (tooLarge most) s st at) (m : Moved) (e : m ≡ readRecord s st at) (h : Heed) (k : Heeded h most at (m .told)) where
   -- what it means, by what it is
@@ -75,16 +80,10 @@ module _ (most : ℕ) (s : List ℕ) {st : State} {at : ℕ} (r : Reached (tooLa
       ended-there (tooLarge most) s r (means heed.Ended f)
       ∙ ap (λ (y : Moved). done (jobEnding (askedOf (y .state)) (columnsTo r) (y .next))) (sym e)
 
-  -- the end: what goes with the table of the columns on the way there is the state's
+  -- the end: what goes with the job's table is the state's head
   pub seen : h ≡ heed.Ended → Surveyed (survey.Ended (record { head = m .state .head; bound = m .state .bound }) (m .next)) (frontOf most s)
   seen f =
       let q = subst (SaysBy s st at (readRecord s st at)) (means heed.Ended f .1) (read-says s st at .by) in
-      let n : length (columnsTo r) ≡ m .state .head .columns =
-      sym (under (tooLarge most) s r .counts) ∙ sym (ap (λ x. x .columns) (q .head)) ∙ ap (λ (y : Moved). y .state .head .columns) (sym e) in (
-        record {
-          found = jobEnding (askedOf (m .state)) (columnsTo r) (m .next);
-          is = ends f;
-          asks = λ i. record { head = headFor (m .state .head .height) (m .state .head .members) (n i); bound = m .state .bound };
-        },
-        refl,
-      )
+      let same : st .head ≡ m .state .head = sym (q .head) ∙ ap (λ (y : Moved). y .state .head) (sym e) in
+      let goes = subst (λ (x : Head). headOf (x .height) (x .members) (columnsTo r) ≡ x) same (head-there most s r) in
+      (record { found = jobEnding (askedOf (m .state)) (columnsTo r) (m .next); is = ends f; asks = λ i. record { head = goes i; bound = m .state .bound } }, refl)
