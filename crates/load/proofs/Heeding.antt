@@ -5,6 +5,7 @@ use mathlib.Core.Bool.{true, false}
 use mathlib.Core.List.{List}
 use Prim.Native.Nat.{ℕ}
 use Rattle.plate.specs.Refusal.{Told, done, refused, refusal, numberOf}
+use Rattle.plate.specs.Head.{headFor}
 use Rattle.plate.specs.declared.head.Head.{Head}
 use Rattle.plate.specs.declared.refusal.Reason.{Reason}
 use Rattle.plate.specs.declared.refusal.Reason.the-variants as reason
@@ -57,7 +58,7 @@ read-sane s st at m e = sane s st at m (m .told) (says-of s st at m e)
 
 -- the state's head goes with the table of the columns on the way there
 pub head-there : (most : ℕ) (s : List ℕ) {st : State} {at : ℕ} (r : Reached (tooLarge most) s st at) → headOf (st .head .height) (st .head .members) (columnsTo r) ≡ st .head
-head-there most s {st} r = λ i. record { height = st .head .height; members = st .head .members; columns = sym (under (tooLarge most) s r .counts) i }
+head-there most s {st} r = ap (headFor (st .head .height) (st .head .members)) (sym (under (tooLarge most) s r .counts))
 
 -- the record there
 

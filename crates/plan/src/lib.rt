@@ -145,7 +145,16 @@ fn relax(
     let to = entry_of(s, q, first) + 1;
     let cell = layer_cell(table, s, start, t);
     let end = end_count(s, start);
-    put_all(errors, thicknesses, from, to, cell, t as u8, end - first);
+    let many = end - first;
+    put_all(
+        errors,
+        thicknesses,
+        from as u32,
+        to as u32,
+        cell,
+        t as u8,
+        many as u32,
+    );
 }
 
 // One thickness more in row q, where it may be used.

@@ -8,7 +8,7 @@ use native.Mathlib.Omega.{arith}
 use borrow.Author.Tests.{ltb-true, ltb-false, leb-true, leb-false, lt-ltb, le-ltb, le-leb, lt-leb}
 use Rattle.lists.specs.Checks.{first}
 use Rattle.paper.specs.Limits.{mostColumns}
-use Rattle.plate.specs.Head.{both, less, capped, isOver, isFull, isLess, cellsOf, headChecks, SettingsFor}
+use Rattle.plate.specs.Head.{headFor, both, less, capped, isOver, isFull, isLess, cellsOf, headChecks, SettingsFor}
 use Rattle.plate.specs.Settings.{Sound}
 use Rattle.plate.specs.declared.head.Head.{Head}
 use Rattle.plate.specs.declared.settings.Settings.{Settings}
@@ -28,7 +28,7 @@ module _ (head : Head) where
   capped-same e =
       let l = not-over e in
       let m : min (head .columns) mostColumns ≡ head .columns = omega arith in
-      ap (λ (n : ℕ). record { height = head .height; members = head .members; columns = n }) m
+      ap (headFor (head .height) (head .members)) m
 
   pub capped-not-over : isOver (capped head) ≡ false
   unfolding isOver

@@ -30,24 +30,28 @@ toldTable (Refused r) = refusal r
 
 -- ---- arithmetic
 
+-- of these settings and so many columns
+abbrev pub headFor : ℕ → ℕ → ℕ → Head
+headFor N T columns = record { height = N; members = T; columns = columns }
+
 -- of a table that was cleared
 abbrev pub clearedHead : ℕ → ℕ → Head
-clearedHead N T = record { height = N; members = T; columns = 0 }
+clearedHead N T = headFor N T 0
 
 -- one column more
 abbrev pub more : Head → Head
-more head = record { height = head .height; members = head .members; columns = head .columns + 1 }
+more head = headFor (head .height) (head .members) (head .columns + 1)
 
 -- both tables' columns, and the difference
 abbrev pub both : Head → Head → Head
-both head other = record { height = head .height; members = head .members; columns = head .columns + other .columns }
+both head other = headFor (head .height) (head .members) (head .columns + other .columns)
 
 abbrev pub less : Head → Head → Head
-less head other = record { height = head .height; members = head .members; columns = head .columns - other .columns }
+less head other = headFor (head .height) (head .members) (head .columns - other .columns)
 
 -- no more columns than a table can have
 abbrev pub capped : Head → Head
-capped head = record { height = head .height; members = head .members; columns = min (head .columns) mostColumns }
+capped head = headFor (head .height) (head .members) (min (head .columns) mostColumns)
 
 -- ---- limits
 

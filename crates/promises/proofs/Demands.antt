@@ -16,7 +16,7 @@ use Rattle.paper.specs.Table.{cells, InBounds, Table, cellAt, ofTable}
 use Rattle.paper.specs.Sequence.{M, None}
 use Rattle.paper.specs.Sheets.{entries}
 use Rattle.plate.specs.Call.{answerOf, leftBy}
-use Rattle.plate.specs.Head.{Held, heldIn}
+use Rattle.plate.specs.Head.{Held, heldIn, headFor}
 use Rattle.plate.specs.Refusal.{Told, done, refused}
 use Rattle.plate.specs.Settings.{settingsChecks}
 use Rattle.plate.proofs.Calls.{passes}
@@ -45,7 +45,7 @@ pub record Room (N T : ℕ) (lent : Sheets) : Type 0 where
 module _ (N T : ℕ) (settings : paper.Settings N T) (c : ℕ) (table : List ℕ) (b : InBounds N T c table) where
   -- the table, and what goes with it
   abbrev held : Held
-  held = heldIn (record { height = N; members = T; columns = c }) table
+  held = heldIn (headFor N T c) table
 
   plan-fine : (bound : ℕ) (lent : Sheets) → Room N T lent → first (planning held bound lent .checks) ≡ none
   unfolding planning planRest short

@@ -24,7 +24,7 @@ use Rattle.paper.specs.Groups.{Usable}
 use Rattle.paper.proofs.Thicknesses.{allowed-from, tmax-le}
 use Rattle.plate.specs.Call.{answerOf}
 use Rattle.plate.specs.Datum.{datum, heightOf}
-use Rattle.plate.specs.Head.{Held, heldIn}
+use Rattle.plate.specs.Head.{Held, heldIn, headFor}
 use Rattle.plate.specs.Refusal.{done}
 use Rattle.plate.proofs.Calls.{passes, finished}
 use Rattle.plate.proofs.Datum.{height-datum, pos-height, neg-height, sum-height, le-up, le-down, lt-up, lt-down, datum-above}
@@ -108,10 +108,10 @@ module _ (N T bound : ℕ) (table : List ℕ) (settings : paper.Settings N T) (z
 
   -- recounting an admissible sequence gives its error
   pub recounts : (c : ℕ) → InBounds N T c table
-      → answerOf (recounting (heldIn (record { height = N; members = T; columns = c }) table) bound zs) ≡ done (error (ofTable N T table) zs)
+      → answerOf (recounting (heldIn (headFor N T c) table) bound zs) ≡ done (error (ofTable N T table) zs)
   unfolding recounting
   recounts c b =
-      let held : Held = heldIn (record { height = N; members = T; columns = c }) table in
+      let held : Held = heldIn (headFor N T c) table in
       passes (recounting held bound zs)
       (first-passed (tableChecks held) (sequenceChecks N T table bound zs) (table-fine held (settings-fine N T settings) b) ∙ sequence-fine) .0
 

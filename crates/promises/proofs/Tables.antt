@@ -20,7 +20,7 @@ use Rattle.paper.specs.Layer.{allowed, Column, IsColumn, share, shares, ofColum
 use Rattle.paper.specs.Table.{cells, startAt, thicknessAt, cellOf, limit, Table, InBounds}
 use Rattle.plate.specs.Refusal.{Told, done}
 use Rattle.plate.specs.Call.{Call, answerOf, leftBy}
-use Rattle.plate.specs.Head.{Held, heldIn, clearedHead, more, limitOf, headChecks}
+use Rattle.plate.specs.Head.{Held, heldIn, headFor, clearedHead, more, limitOf, headChecks}
 use Rattle.plate.specs.Head as head
 use Rattle.plate.specs.Settings.{settingsChecks}
 use Rattle.plate.specs.declared.head.Head.{Head}
@@ -100,7 +100,7 @@ runs-done call e = let p = passes call e in ap₂ holds (p .0) (p .1)
 pub tabulated-perm : (N T : ℕ) (xs ys : List Column) (h : Held) → Perm xs ys → Tabulated N T xs h → Tabulated N T ys h
 tabulated-perm N T xs ys h p t = record {
   table = record { size = t .table .size; holds = λ i l. t .table .holds i l ∙ cell-perm T xs ys p i };
-  goes = t .goes ∙ ap (λ (n : ℕ). record { height = N; members = T; columns = n }) (length-perm xs ys p);
+  goes = t .goes ∙ ap (headFor N T) (length-perm xs ys p);
 }
 
 tabulates-perm : (N T : ℕ) (xs ys : List Column) (run : Told Held) → Perm xs ys → Tabulates N T xs run → Tabulates N T ys run
@@ -168,7 +168,7 @@ module _ (N T : ℕ) (settings : paper.Settings N T) where
               ∙ ap (λ (x : ℕ). x + addend T column i) (t .holds i l)
               ∙ cell-more T column columns i;
         };
-        goes = ap (λ (n : ℕ). record { height = N; members = T; columns = n }) (omega arith);
+        goes = ap (headFor N T) (omega arith);
       };
     }
 
@@ -243,7 +243,7 @@ module _ (N T : ℕ) (settings : paper.Settings N T) where
 
   -- what goes with a table is known by its settings and its count
   goes-with : (x : Head) (columns : List Column) → x .height ≡ N → x .members ≡ T → x .columns ≡ length columns → x ≡ headOf N T columns
-  goes-with x columns e f g = λ i. record { height = e i; members = f i; columns = g i }
+  goes-with x columns e f g = λ i. headFor (e i) (f i) (g i)
 
   pub join-tabulates : (xs ys : List Column) (h k : Held) → Tabulated N T xs h → Tabulated N T ys k → length (xs ++ ys) ≤ mostColumns
       → Tabulates N T (xs ++ ys) (join h k)

@@ -96,40 +96,40 @@ fn put_many(
 }
 
 // Whether n entries from `from` on lie before those from `to` on, and those in sheets of these lengths.
-fn has_room(from: usize, to: usize, n: usize, errors: usize, thicknesses: usize) -> bool
+fn has_room(from: u32, to: u32, n: u32, errors: usize, thicknesses: usize) -> bool
     ensures { λ r. ⌜ r ≡ fits from to n errors thicknesses ⌝ }
 {
-    if to < n {
+    if (to as usize) < from as usize + n as usize {
         return false;
     }
-    if to - n < from {
+    let end = to as usize + n as usize;
+    if errors < end {
         return false;
     }
-    if errors < to {
-        return false;
-    }
-    if errors - to < n {
-        return false;
-    }
-    if thicknesses < to {
-        return false;
-    }
-    n <= thicknesses - to
+    end <= thicknesses
 }
 
 // A last layer put on the sequences of n counts, and nothing where their places do not lie in the sheets, one after the other.
 pub fn put_all(
     errors: &mut [u64],
     thicknesses: &mut [u8],
-    from: usize,
-    to: usize,
+    from: u32,
+    to: u32,
     cell: u32,
     t: u8,
-    n: usize,
+    n: u32,
 )
     ensures { λ _. ⌜ PutAll from to cell t n (now (errors .entry)) (now (thicknesses .entry)) (now (errors .exit)) (now (thicknesses .exit)) ⌝ }
 {
     if has_room(from, to, n, errors.len(), thicknesses.len()) {
-        put_many(errors, thicknesses, from, to, cell, t, n);
+        put_many(
+            errors,
+            thicknesses,
+            from as usize,
+            to as usize,
+            cell,
+            t,
+            n as usize,
+        );
     }
 }

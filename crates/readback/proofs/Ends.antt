@@ -1,6 +1,6 @@
 -- The end that is found: an entry is at most the mark for none, so the least of those at the end heights is the mark exactly where there is
 -- none, and else its place is that of the lowest end height that has it. Assumes nothing.
-use Prim.Native.Nat.{ℕ, _+_, _^_, _≤_, _<_}
+use Prim.Native.Nat.{ℕ, _+_, _-_, _^_, _≤_, _<_}
 use mathlib.Core.Path.{_≡_, refl, sym, ap, _∙_}
 use mathlib.Core.Bool.{true, false}
 use mathlib.Core.List.{List}
@@ -10,6 +10,7 @@ use Rattle.lists.specs.Best.{Best, nothing, found, value, place, bestOf}
 use Rattle.lists.proofs.Best.{best-in}
 use Rattle.paper.specs.Layer.{tmax}
 use Rattle.paper.specs.Sheets.{missing}
+use Rattle.plate.specs.Datum.{atRow}
 use Rattle.plate.specs.Settings.{Sound}
 use Rattle.plate.specs.declared.settings.Settings.{Settings}
 use Rattle.sequence.specs.Sequence.{lowestEnd}
@@ -70,15 +71,15 @@ module _ (s : Settings) (sound : Sound s) (errors : List ℕ) (whole : s .entrie
     pub with-end : isNothing end ≡ false
     with-end = is-found end (λ e. some (error-is ∙ e))
 
-    pub top-is : lowestEnd (s .height) + least .place ≡ place end
+    top-is : lowestEnd (s .height) + least .place ≡ place end
     top-is =
         ap (λ (k : ℕ). lowestEnd (s .height) + k) (is .place-is)
         ∙ raised-place (lowestEnd (s .height)) best (ap isNothing (sym same) ∙ with-end)
         ∙ sym (ap place same)
 
-    -- and it is one of the sheet's
-    pub top-high : 32 < lowestEnd (s .height) + least .place + s .tmax
-    top-high = omega (arith, sound .thin, sound .order)
-
-    pub top-low : lowestEnd (s .height) + least .place < lowestEnd (s .height) + s .tmax
+    -- and it is that of one of the last tmax rows
+    pub top-low : least .place < s .tmax
     top-low = omega (arith, top-is, end-height (s .height) (s .members) errors n with-end .1, sound .greatest)
+
+    pub top-row : atRow (s .tmax) (s .height + s .tmax - 1 + least .place) ≡ place end
+    top-row = let e : atRow (s .tmax) (s .height + s .tmax - 1 + least .place) ≡ lowestEnd (s .height) + least .place = omega (arith, sound .low, sound .thick) in e ∙ top-is

@@ -63,17 +63,17 @@ noted n k h l p q =
     ap (λ (r : List ℕ). map heightOf (drop k r)) (take-set-lt (n + 1) l k h (omega arith))
     ∙ ap (map heightOf) (stored (take (n + 1) l) k h (omega arith))
 
--- one height noted: the boundaries still to note, under those that are, are as before
-pub noted-more : (look : ℕ → ℕ → ℕ) (n k h t : ℕ) (l : List ℕ) → 0 < k → k ≤ n → n < length l → t ≡ look k h
-    → boundariesUnder look (k - 1) (h - t) (notedFrom (k - 1 + 1) n (set l k h)) ≡ boundariesUnder look k h (notedFrom (k + 1) n l)
-noted-more look n k h t l p u q is =
+-- one height noted, and a step down to the next: the boundaries still to note, under those that are, are as before
+pub noted-more : (look : ℕ → ℕ → ℕ) (n k h t noted-height next : ℕ) (l : List ℕ) → 0 < k → k ≤ n → n < length l → t ≡ look k h → noted-height ≡ h → next ≡ h - t
+    → boundariesUnder look (k - 1) next (notedFrom (k - 1 + 1) n (set l k noted-height)) ≡ boundariesUnder look k h (notedFrom (k + 1) n l)
+noted-more look n k h t v g l p u q is e d =
     let back : k - 1 + 1 ≡ k = omega arith in
-    rw (back, noted n k h l u q, is) (sym (boundaries-step look k h (notedFrom (k + 1) n l) p))
+    rw (back, e, d, noted n k h l u q, is) (sym (boundaries-step look k h (notedFrom (k + 1) n l) p))
 
-pub noted-last : (look : ℕ → ℕ → ℕ) (n k h : ℕ) (l : List ℕ) → k ≡ 0 → n < length l
-    → notedFrom 0 n (set l 0 h) ≡ boundariesUnder look k h (notedFrom (k + 1) n l)
+pub noted-last : (look : ℕ → ℕ → ℕ) (n k h noted-height : ℕ) (l : List ℕ) → k ≡ 0 → n < length l → noted-height ≡ h
+    → notedFrom 0 n (set l 0 noted-height) ≡ boundariesUnder look k h (notedFrom (k + 1) n l)
 unfolding boundariesUnder
-noted-last look n k h l e q = noted n 0 h l (omega arith) q ∙ rw e
+noted-last look n k h v l e q i = rw i (noted n 0 h l (omega arith) q ∙ rw e)
 
 -- before the first step none is noted
 pub noted-none : (n : ℕ) (l : List ℕ) → notedFrom (n + 1) n l ≡ []

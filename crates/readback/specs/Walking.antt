@@ -7,7 +7,6 @@ use lib.IntN.{ℤ}
 use lib.Seq.{slice}
 use Rattle.plate.specs.Datum.{heightOf}
 use Rattle.plate.specs.declared.settings.Settings.{Settings}
-use Rattle.sequence.specs.Sequence.{lowestEnd}
 use Rattle.sequence.specs.Sheets.{faultUnder, boundariesUnder}
 use Rattle.readback.specs.declared.Walk.{Walk}
 use Rattle.readback.specs.declared.Walk.the-variants.{Fine, Fault}
@@ -17,12 +16,11 @@ abbrev pub faultOf : Walk → Option ℕ
 faultOf Fine = none
 faultOf (Fault layer) = some layer
 
--- the count m and the height h have an entry in a sheet of this length
-pub record InSheet (s : Settings) (long m h : ℕ) : Type 0 where
+-- the count m and the row q have an entry in a sheet of this length
+pub record InSheet (s : Settings) (long m q : ℕ) : Type 0 where
   pub whole : s .entries ≤ long
   pub count : m ≤ s .counts
-  pub above : 32 < h + s .tmax
-  pub below : h < lowestEnd (s .height) + s .tmax
+  pub row : q ≤ s .rows
 
 -- the whole numbers of the heights from k to n, of those that were noted
 abbrev pub notedFrom : ℕ → ℕ → List ℕ → List ℤ

@@ -6,6 +6,7 @@ ghost use Prim.Native.Nat.{_+_, _-_, _<_, _≤_};
 ghost use lib.ListN.{length, drop};
 ghost use Rattle.lists.specs.Checks.{first};
 ghost use Rattle.plate.specs.Call.{Does};
+ghost use Rattle.plate.specs.Datum.{atRow};
 ghost use Rattle.plate.specs.Refusal.{told};
 ghost use Rattle.plate.specs.Settings.{Sound, Judges};
 ghost use Rattle.sequence.specs.Rules.{shape};
@@ -22,11 +23,11 @@ use plate::settings::Made;
 use plate::settings::Settings;
 use sheets::Least;
 use sheets::NONE;
+use sheets::at_row;
 use sheets::entry_index;
 use sheets::is_layer;
 use sheets::is_start;
 use sheets::least_end;
-use sheets::row_of;
 
 // How a walk down a sheet of thicknesses ends.
 pub enum Walk {
@@ -34,53 +35,52 @@ pub enum Walk {
     Fault(usize),
 }
 
-// The thickness that a sheet holds at the height h and the count m.
-fn thickness_at(thicknesses: &[u8], s: Settings, h: usize, m: usize) -> usize
+// The thickness that a sheet holds at a row and the count m.
+fn thickness_at(thicknesses: &[u8], s: Settings, row: u32, m: usize) -> u32
     requires { ⌜ Sound s ⌝ }
-    requires { ⌜ InSheet s (length (now thicknesses)) m h ⌝ }
-    ensures { λ r. ⌜ r ≡ entry (s .height) (s .members) (now (thicknesses .entry)) m h ⌝ }
+    requires { ⌜ InSheet s (length (now thicknesses)) m row ⌝ }
+    ensures { λ r. ⌜ r ≡ entry (s .height) (s .members) (now (thicknesses .entry)) m (atRow (s .tmax) row) ⌝ }
 {
-    let row = row_of(s.tmax as u32, h as u32);
-    let at = entry_index(s.counts as u32, row as u32, m as u32);
-    thicknesses[at] as usize
+    let at = entry_index(s.counts as u32, row, m as u32);
+    thicknesses[at] as u32
 }
 
-// Whether a layer of thickness t that ends at the height h has the shape of one.
-fn is_layer_under(s: Settings, h: usize, t: usize) -> bool
+// Whether a layer of thickness t that ends at a row has the shape of one.
+fn is_layer_under(s: Settings, row: u32, t: u32) -> bool
     requires { ⌜ Sound s ⌝ }
-    requires { ⌜ (32 < h + s .tmax) × (h < s .height + 32 + s .tmax) ⌝ }
-    ensures { λ r. ⌜ r ≡ shape (s .height) (s .members) (h - t) t ⌝ }
+    ensures { λ r. ⌜ r ≡ shape (s .height) (s .members) (atRow (s .tmax) row - t) t ⌝ }
 {
-    let row = row_of(s.tmax as u32, h as u32);
     if row < t {
         return false;
     }
-    is_layer(s, row - t, t)
+    let start = row - t;
+    is_layer(s, start as usize, t as usize)
 }
 
-// Walks down from height top through n layers, notes each boundary's height, and says how the walk ends. Each step waits for the one before,
-// so that a second walk, to write what the first one found, would take as long again.
-fn walk_down(thicknesses: &[u8], s: Settings, n: usize, top: usize, heights: &mut [u16]) -> Walk
+// Walks down from the row `top` through n layers, notes each boundary's height, and says how the walk ends. Each step waits for the one
+// before, so that a second walk, to write what the first one found, would take as long again.
+fn walk_down(thicknesses: &[u8], s: Settings, n: usize, top: u32, heights: &mut [u16]) -> Walk
     requires { ⌜ Sound s ⌝ }
     requires { ⌜ InSheet s (length (now thicknesses)) n top ⌝ }
     requires { ⌜ n < length (now heights) ⌝ }
-    ensures { λ r. ⌜ Walked (entry (s .height) (s .members) (now (thicknesses .entry))) (s .height) (s .members) n top r (now (heights .exit)) ⌝ }
+    ensures { λ r. ⌜ Walked (entry (s .height) (s .members) (now (thicknesses .entry))) (s .height) (s .members) n (atRow (s .tmax) top) r (now (heights .exit)) ⌝ }
 {
-    let mut h = top;
+    let mut row = top;
     let mut k = n;
     while 0 < k {
-        heights[k] = h as u16;
-        let t = thickness_at(thicknesses, s, h, k);
-        if !is_layer_under(s, h, t) {
+        heights[k] = at_row(s.tmax as u32, row) as u16;
+        let t = thickness_at(thicknesses, s, row, k);
+        if !is_layer_under(s, row, t) {
             return Walk::Fault(k);
         }
-        h -= t;
+        row -= t;
         k -= 1;
     }
-    if !is_start(s.tmax, h) {
+    let lowest = at_row(s.tmax as u32, row);
+    if !is_start(s.tmax, lowest) {
         return Walk::Fault(0);
     }
-    heights[0] = h as u16;
+    heights[0] = lowest as u16;
     Walk::Fine
 }
 
@@ -162,8 +162,8 @@ fn read_entries(
         return Answer::Refused(refusal_at(Reason::NoSequence, 0));
     }
     let mut heights = [0u16; 575];
-    let top = s.height + 32 + end.place;
-    let walk = walk_down(thicknesses, s, n, top, &mut heights);
+    let top = s.height + s.tmax - 1 + end.place;
+    let walk = walk_down(thicknesses, s, n, top as u32, &mut heights);
     if let Walk::Fault(layer) = walk {
         return Answer::Refused(refusal_at(Reason::Unreadable, layer));
     }

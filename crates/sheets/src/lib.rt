@@ -4,7 +4,7 @@ ghost use mathlib.Core.Path.{_≡_};
 ghost use Prim.Native.Nat.{_<_};
 ghost use lib.ListN.{getD};
 ghost use Rattle.paper.specs.Sheets.{entryIndex, missing};
-ghost use Rattle.plate.specs.Datum.{rowOf};
+ghost use Rattle.plate.specs.Datum.{rowOf, atRow};
 ghost use Rattle.sequence.specs.Sequence.{starts};
 ghost use Rattle.sheets.specs.Layers.{isLayer};
 ghost use Rattle.sheets.specs.Entries.{leastFrom, leastEnd};
@@ -37,6 +37,17 @@ pub fn row_of(tmax: u32, h: u32) -> usize
         return 0;
     }
     above - 33
+}
+
+// The height of a row.
+pub fn at_row(tmax: u32, row: u32) -> usize
+    ensures { λ r. ⌜ r ≡ atRow tmax row ⌝ }
+{
+    let above = row as usize + 33;
+    if above < tmax as usize {
+        return 0;
+    }
+    above - tmax as usize
 }
 
 // Whether a height is a start.

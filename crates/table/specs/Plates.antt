@@ -5,7 +5,7 @@ use lib.ListN.{length}
 use Rattle.lists.specs.Rewrite.{rewritten}
 use Rattle.paper.specs.Layer.{Column, shares}
 use Rattle.paper.specs.Table.{cells, cellOf}
-use Rattle.plate.specs.Head.{Held, heldIn}
+use Rattle.plate.specs.Head.{Held, heldIn, headFor}
 use Rattle.plate.specs.declared.head.Head.{Head}
 
 -- a buffer with the table of these columns written into it: what stands past the table stays
@@ -14,7 +14,7 @@ tableOf N T columns old = rewritten (λ i x. cellOf T (shares columns) i) (cells
 
 -- what goes with the table of these columns
 abbrev pub headOf : ℕ → ℕ → List Column → Head
-headOf N T columns = record { height = N; members = T; columns = length columns }
+headOf N T columns = headFor N T (length columns)
 
 abbrev pub plateHeld : ℕ → ℕ → List Column → List ℕ → Held
 plateHeld N T columns old = heldIn (headOf N T columns) (tableOf N T columns old)

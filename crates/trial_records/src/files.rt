@@ -1,8 +1,8 @@
 // A whole file read into a part of a buffer that holds a pattern before.
 use crate::show;
-use job::Load;
-use job::Loaded;
-use job::read_job;
+use load::Load;
+use load::Loaded;
+use load::read_job;
 
 const PATTERN: [u32; 30] = [
     900,
@@ -66,11 +66,9 @@ fn show_table(table: &[u32; 30]) {
 }
 
 fn show_load(load: Load) {
-    let asked = load.asked;
-    let tally = load.tally;
-    show::asked(asked);
-    show::text(b", columns");
-    show::next32(tally.columns);
+    let head = load.head;
+    show::head(head);
+    show::bound(load.bound);
 }
 
 // By the most entries that a table or a sheet may have, and the length of the part that is lent. A file that was read shows the whole buffer,

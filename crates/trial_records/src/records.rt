@@ -5,25 +5,30 @@ use job::Cursor;
 use job::Read;
 use job::State;
 use job::Step;
+use plate::head::Head;
 
 fn show_state(state: State) {
     show::text(b"; begun");
     show::next_flag(state.begun);
     show::text(b", ended");
     show::next_flag(state.ended);
-    show::text(b", columns");
-    show::next32(state.columns);
     show::text(b",");
-    let asked = state.asked;
-    show::asked(asked);
+    let head = state.head;
+    show::head(head);
+    show::bound(state.bound);
+}
+
+fn show_asked(asked: Asked) {
+    show::text(b" settings height");
+    show::next32(asked.height);
+    show::text(b", members");
+    show::next32(asked.members);
+    show::bound(asked.bound);
 }
 
 fn show_read(read: Read) {
     match read {
-        Read::Settings(asked) => {
-            show::text(b" settings");
-            show::asked(asked);
-        }
+        Read::Settings(asked) => show_asked(asked),
         Read::Column { start, count } => {
             show::text(b" column of");
             show::next_size(count);
@@ -59,16 +64,16 @@ fn narrow(number: u64) -> u32 {
 }
 
 fn state_of(numbers: [u64; 8]) -> State {
-    let asked = Asked {
-        height: narrow(numbers[3]),
-        members: narrow(numbers[4]),
-        bound: narrow(numbers[5]),
+    let head = Head {
+        height: narrow(numbers[2]),
+        members: narrow(numbers[3]),
+        columns: narrow(numbers[4]),
     };
     State {
         begun: 0 < numbers[0],
         ended: 0 < numbers[1],
-        columns: narrow(numbers[2]),
-        asked,
+        head,
+        bound: narrow(numbers[5]),
     }
 }
 

@@ -1,6 +1,6 @@
 // What is printed: words, numbers, refusals, and whether lent memory was kept.
-use job::Asked;
 use libc::STDOUT_FILENO;
+use plate::head::Head;
 use plate::refusal::Reason;
 
 pub(crate) fn text(words: &[u8]) {
@@ -37,14 +37,19 @@ pub(crate) fn refused(reason: Reason, place: u64) {
     next(place);
 }
 
-// What settings ask for.
-pub(crate) fn asked(asked: Asked) {
+// What goes with a table.
+pub(crate) fn head(head: Head) {
     text(b" height");
-    next32(asked.height);
-    text(b", set");
-    next32(asked.members);
+    next32(head.height);
+    text(b", members");
+    next32(head.members);
+    text(b", columns");
+    next32(head.columns);
+}
+
+pub(crate) fn bound(bound: u32) {
     text(b", bound");
-    next32(asked.bound);
+    next32(bound);
 }
 
 // Whether memory that is not to be written is as it was.

@@ -13,20 +13,17 @@ use Rattle.readback.proofs.is_layer_under.Tie as tie
 
 returns-2 : tie.Need-returns-2
 returns-2 c =
-    let r = c .before .before in
-    let s = r .before .before in
-    let e : atRow (s .args .s .tmax) (r .row-of .result - s .args .t) ≡ s .args .h - s .args .t = omega (arith, r .row-of .ensures, s .pre .0 .thick) in
+    let s = c .before .before in
+    let e : atRow (s .args .s .tmax) (s .args .row - s .args .t) ≡ atRow (s .args .s .tmax) (s .args .row) - s .args .t = omega (arith, s .pre .thick) in
     c .is-layer .ensures
-    ∙ shape-row (s .args .s) (s .pre .0) _ (s .args .t)
+    ∙ shape-row (s .args .s) (s .pre) _ (s .args .t)
     ∙ ap (λ (h : ℕ). shape (s .args .s .height) (s .args .s .members) h (s .args .t)) e
 
 pub is-layer-under-spec : {M : Type 1} → statement M
 is-layer-under-spec =
     tie.close
     (tie.spec
-    (λ c. omega (arith, c .before .pre .0 .thick))
-    (λ c. omega (arith, c .before .pre .0 .high, c .before .pre .0 .thick))
-    (λ c κs. search needs)
-    (λ c. let s = c .before .before .before in sym (shape-low _ _ _ _ (omega (arith, c .before .row-of .ensures, s .pre .0 .greatest, s .pre .0 .thick))))
+    (λ c. let s = c .before in sym (shape-low _ _ _ _ (omega (arith, s .pre .greatest, s .pre .thick))))
+    (λ c. search needs)
     (λ c κs. search needs)
     returns-2)

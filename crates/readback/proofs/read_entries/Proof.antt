@@ -4,9 +4,8 @@ use mathlib.Core.Path.{_≡_, ap}
 use native.Mathlib.Omega.{arith}
 use borrow.Author.Needs.{needs}
 use lib.ListN.{length}
-use Prim.Native.Nat.{_+_, _≤_}
+use Prim.Native.Nat.{_+_, _-_, _≤_}
 use Rattle.paper.specs.Sheets.{missing}
-use Rattle.sequence.specs.Sequence.{lowestEnd}
 use Rattle.sheets.proofs.Places.{entries-is}
 use Rattle.readback.specs.Walking.{faultOf, InSheet}
 use Rattle.readback.proofs.Ends as ends
@@ -35,12 +34,17 @@ module _ (c : tie.After-end-of) where
   a = c .before .before .before
 
   -- the walk down from the end that was found stays in the sheet
-  in-sheet : (c .end-of .result .error ≡ missing → ⊥) → InSheet (a .args .s) (length (a .args .thicknesses .now)) (a .args .n) (lowestEnd (a .args .s .height) + c .end-of .result .place)
+  in-sheet : (c .end-of .result .error ≡ missing → ⊥) → InSheet (a .args .s) (length (a .args .thicknesses .now)) (a .args .n) (a .args .s .height + a .args .s .tmax - 1 + c .end-of .result .place)
   in-sheet n = record {
     whole = thicknesses-whole a;
     count = few a;
-    above = ends.top-high (a .args .s) (a .pre .0) (a .args .errors .now) (errors-whole a) (a .args .n) (few a) (c .end-of .result) (c .end-of .ensures) n;
-    below = ends.top-low (a .args .s) (a .pre .0) (a .args .errors .now) (errors-whole a) (a .args .n) (few a) (c .end-of .result) (c .end-of .ensures) n;
+    row =
+        omega (
+          arith,
+          ends.top-low (a .args .s) (a .pre .0) (a .args .errors .now) (errors-whole a) (a .args .n) (few a) (c .end-of .result) (c .end-of .ensures) n,
+          a .pre .0 .rows-are,
+          a .pre .0 .low,
+        );
   }
 
 returns : tie.Need-returns
@@ -56,7 +60,7 @@ returns-2 c =
     let n = c .before .before .before .before .before .before .before .before .before .if1 .left in
     rw (c .refusal-at2 .ensures)
     (bad-walk _ _ _ _ _ _ (a e .pre .1) (ends.with-end (a e .args .s) (a e .pre .0) _ (errors-whole (a e)) _ (few (a e)) _ (e .end-of .ensures) n) _ _
-    (ends.top-is (a e .args .s) (a e .pre .0) _ (errors-whole (a e)) _ (few (a e)) _ (e .end-of .ensures) n) (c .before .before .before .before .before .walk-down .ensures .ends) _ (ap faultOf (c .before .before .walk .given .1)))
+    (ends.top-row (a e .args .s) (a e .pre .0) _ (errors-whole (a e)) _ (few (a e)) _ (e .end-of .ensures) n) (c .before .before .before .before .before .walk-down .ensures .ends) _ (ap faultOf (c .before .before .walk .given .1)))
 
 returns-3 : tie.Need-returns-3
 returns-3 c =
@@ -65,7 +69,7 @@ returns-3 c =
     let w = c .before .before .before .before .before .before .before .walk-down .ensures in
     let f = ap faultOf (c .before .before .before .before .enum-told .given .1) in
     good-walk _ _ _ _ _ _ (a e .pre .1) (ends.with-end (a e .args .s) (a e .pre .0) _ (errors-whole (a e)) _ (few (a e)) _ (e .end-of .ensures) n) _ _
-    (ends.top-is (a e .args .s) (a e .pre .0) _ (errors-whole (a e)) _ (few (a e)) _ (e .end-of .ensures) n) (w .ends) _ _
+    (ends.top-row (a e .args .s) (a e .pre .0) _ (errors-whole (a e)) _ (few (a e)) _ (e .end-of .ensures) n) (w .ends) _ _
     (ends.error-is (a e .args .s) (a e .pre .0) _ (errors-whole (a e)) _ (few (a e)) _ (e .end-of .ensures)) f
     (noted-under _ _ _ _ _ _ _ _ _ w f (c .before .write-heights .ensures))
 
@@ -76,8 +80,10 @@ read-entries-spec =
     (λ c κs. let a = c .before .before in (a .pre .0, few a))
     (λ c κs. search needs)
     returns
-    (λ c. let a = c .before .before .before .before .before .before in omega (arith, a .pre .0 .high))
-    (λ c. let e = c .before .before .before .before in omega (arith, in-sheet e (c .before .before .if1 .left) .below, a e .pre .0 .high, a e .pre .0 .thick))
+    (λ c. let a = c .before .before .before .before .before .before in omega (arith, a .pre .0 .high, a .pre .0 .thick))
+    (λ c. let a = c .before .before .before .before .before .before in omega (arith, a .pre .0 .low))
+    (λ c. let e = c .before .before .before .before in omega (arith, in-sheet e (c .before .before .if1 .left) .row, a e .pre .0 .rows-are, a e .pre .0 .high, a e .pre .0 .thick))
+    (λ c. let e = c .before .before .before .before in omega (arith, in-sheet e (c .before .before .if1 .left) .row, a e .pre .0 .rows-are, a e .pre .0 .high, a e .pre .0 .thick))
     (λ c. search needs)
     (λ c κs. let e = c .before .before .before .before .before in (a e .pre .0, (in-sheet e (c .before .before .before .if1 .left), omega (arith, few (a e), a e .pre .0 .few-counts))))
     (λ c. search needs)

@@ -1,0 +1,595 @@
+"""Document 01 in plain Python: an independent reading, in the document's own order and words.
+
+What the trial programs must print is made from here, by expected-calls, expected-records and expected-jobs. Nothing is taken from the
+library's sources. Voxels are counted one by one, the sequences of a small plate are listed and judged by the definition, and a call asks its
+refusals one after the other in the order that the document names them.
+
+A rule that a request of document 02 moves stands in one place: M in `greatest_count`, what is admissible in `may_start`, `may_end` and
+`is_layer`, what goes with a table in `Head`, the number of each fault of a file in `FAULTS`.
+
+A lent buffer is a list as long as what is lent. A call changes it in place, and only where nothing is refused.
+"""
+import dataclasses
+import functools
+import itertools
+import struct
+
+NO_BOUND = 2 ** 32 - 1
+NONE = 2 ** 64 - 1
+MOST_THICKNESS = 32
+MOST_BOUNDARIES = 64
+MOST_COLUMNS = 1_000_000
+MOST_BYTES = 4096
+MOST_ENTRIES = 4096
+
+
+class Refused(Exception):
+    """A refusal: a number and a place."""
+
+    def __init__(self, number, place=0):
+        super().__init__(f"refused {number} at {place}")
+        self.number, self.place = number, place
+
+
+def refuse(number, holds, place=0):
+    if holds:
+        raise Refused(number, place)
+
+
+def refuse_first(number, items, is_bad):
+    """At the first index whose item is bad."""
+    for place, item in enumerate(items):
+        refuse(number, is_bad(place, item), place)
+
+
+# ---- Plate, column, layer
+
+
+def check_height(height):
+    refuse(1, not 1 <= height <= 512)
+
+
+def check_members(members):
+    refuse(2, members == 0)
+
+
+class Plate:
+    """Settings, a height N and a thickness set T of 32 bits, with what follows from them; 1 and 2 where they are none."""
+
+    def __init__(self, height, members):
+        check_height(height)
+        check_members(members)
+        self.height = height
+        self.thicknesses = [k for k in range(1, MOST_THICKNESS + 1) if members >> (k - 1) & 1]
+        self.tmin, self.tmax = min(self.thicknesses), max(self.thicknesses)
+
+    @functools.cached_property
+    def starts(self):
+        return range(-(self.tmax - 1), self.height + self.tmax - 1)
+
+    @functools.cached_property
+    def cells(self):
+        """The layers of a table's cells, thickness running fastest."""
+        return [(z, t) for z in self.starts for t in range(1, self.tmax + 1)]
+
+    @functools.cached_property
+    def heights(self):
+        return range(-(self.tmax - 1), self.height + self.tmax)
+
+    @functools.cached_property
+    def entries(self):
+        """The heights and counts of a sheet's entries, count running fastest."""
+        return [(h, m) for h in self.heights for m in range(greatest_count(self) + 1)]
+
+    @functools.cached_property
+    def cell_of(self):
+        return {layer: index for index, layer in enumerate(self.cells)}
+
+    @functools.cached_property
+    def entry_of(self):
+        return {entry: index for index, entry in enumerate(self.entries)}
+
+
+@functools.lru_cache(maxsize=64)
+def plate_of(height, members):
+    return Plate(height, members)
+
+
+def greatest_count(plate):
+    """M, the greatest count asked for."""
+    return (plate.height + 2 * plate.tmax - 2) // plate.tmin
+
+
+def check_count(column):
+    refuse(4, len(column) % 2 == 1 or len(column) > MOST_BOUNDARIES, len(column))
+
+
+def check_order(column, height):
+    refuse_first(5, column, lambda i, b: b > height or i > 0 and b <= column[i - 1])
+
+
+def check_column(column, height):
+    check_count(column)
+    check_order(column, height)
+
+
+def is_inside(column, z):
+    return sum(1 for b in column if b <= z) % 2 == 1
+
+
+def inside_count(column, z, t):
+    return sum(1 for v in range(z, z + t) if is_inside(column, v))
+
+
+def share(column, z, t):
+    """The smaller of the layer's inside and outside counts."""
+    return min(inside_count(column, z, t), t - inside_count(column, z, t))
+
+
+def is_filled(column, z, t):
+    """The picture fills the column if inside exceeds outside; a tie is left unfilled."""
+    return inside_count(column, z, t) > t - inside_count(column, z, t)
+
+
+# ---- Table
+
+
+@dataclasses.dataclass(frozen=True)
+class Head:
+    """What goes with a table: its settings and its column count."""
+
+    height: int
+    members: int
+    columns: int = 0
+
+    def settings(self):
+        return self.height, self.members
+
+    def with_column(self):
+        return dataclasses.replace(self, columns=self.columns + 1)
+
+    def with_all(self, other):
+        return dataclasses.replace(self, columns=self.columns + other.columns)
+
+    def without(self, other):
+        return dataclasses.replace(self, columns=self.columns - other.columns)
+
+    def is_full(self):
+        return self.columns >= MOST_COLUMNS
+
+    def is_over(self):
+        return self.columns > MOST_COLUMNS
+
+    def is_less_than(self, other):
+        return self.columns < other.columns
+
+    def limit(self, t):
+        """The greatest error of a layer of an allowed thickness."""
+        return self.columns * (t // 2)
+
+
+def added_by(plate, column):
+    """What a column adds to each cell: its share in a layer of an allowed thickness, and nothing to the others."""
+    low = plate.starts[0]
+    inside = [is_inside(column, v) for v in range(low, plate.starts[-1] + plate.tmax)]
+    counts = [sum(inside[z - low:z - low + t]) if t in plate.thicknesses else 0 for z, t in plate.cells]
+    return [min(count, t - count) for count, (_, t) in zip(counts, plate.cells)]
+
+
+def table_of(plate, columns):
+    cells = [0] * len(plate.cells)
+    for column in columns:
+        cells = [cell + more for cell, more in zip(cells, added_by(plate, column))]
+    return cells
+
+
+def bounds(plate, head):
+    """The greatest number that each cell may hold."""
+    return [head.limit(t) if t in plate.thicknesses else 0 for _, t in plate.cells]
+
+
+# ---- Sequence
+
+
+def layers(sequence):
+    return list(zip(sequence, sequence[1:]))
+
+
+def may_start(plate, z):
+    return -plate.tmax < z <= 0
+
+
+def may_end(plate, z):
+    return plate.height <= z < plate.height + plate.tmax
+
+
+def is_layer(plate, below, above):
+    return above - below in plate.thicknesses
+
+
+def layer_errors(plate, table, sequence):
+    return [table[plate.cell_of[below, above - below]] for below, above in layers(sequence)]
+
+
+def sequences(plate, count, end):
+    """Every sequence of so many layers that ends there and starts where it may."""
+    for thicknesses in itertools.product(plate.thicknesses, repeat=count):
+        sequence = [end - sum(thicknesses[k:]) for k in range(count + 1)]
+        if may_start(plate, sequence[0]) and all(is_layer(plate, below, above) for below, above in layers(sequence)):
+            yield sequence
+
+
+def within(plate, table, bound, count, end):
+    """Those of them whose every layer is within the bound, each with its error."""
+    for sequence in sequences(plate, count, end):
+        errors = layer_errors(plate, table, sequence)
+        if all(error <= bound for error in errors):
+            yield sum(errors), sequence
+
+
+# ---- Which of several
+
+
+def from_the_top(sequence):
+    return [above - below for below, above in layers(sequence)][::-1]
+
+
+def chosen(plate, table, bound, count):
+    """The error and the sequence of a count; None where no sequence is admissible."""
+    ends = [end for end in plate.heights if may_end(plate, end)]
+    found = [(error, end, from_the_top(s), s) for end in ends for error, s in within(plate, table, bound, count, end)]
+    return (min(found)[0], min(found)[3]) if found else None
+
+
+# ---- Sheets
+
+
+def entry(plate, table, bound, count, end):
+    """The least error of so many layers that end there, and the last thickness of the chosen one."""
+    found = [(error, from_the_top(sequence)) for error, sequence in within(plate, table, bound, count, end)]
+    error, thicknesses = min(found) if found else (NONE, [])
+    return error, (thicknesses + [0])[0]
+
+
+def sheets_by_definition(plate, table, bound):
+    return [entry(plate, table, bound, count, end) for end, count in plate.entries]
+
+
+def sheets_by_rows(plate, table, bound):
+    """The same for any plate: the best last layer on the best of what is below it, the thinnest of several."""
+    best = {}
+    for end in plate.heights:
+        row = [(0 if may_start(plate, end) else NONE, 0)] + [(NONE, 0)] * greatest_count(plate)
+        for t in plate.thicknesses:
+            below = best.get(end - t)
+            if below is None or not is_layer(plate, end - t, end) or table[plate.cell_of[end - t, t]] > bound:
+                continue
+            error = table[plate.cell_of[end - t, t]]
+            for m, (least, _) in enumerate(below[:-1]):
+                if least != NONE and least + error < row[m + 1][0]:
+                    row[m + 1] = (least + error, t)
+        best[end] = row
+    return [best[end][count] for end, count in plate.entries]
+
+
+def is_small(plate):
+    """Few enough sequences to list them."""
+    return len(plate.thicknesses) ** greatest_count(plate) <= 1000
+
+
+def sheets(plate, table, bound):
+    """The entries of both sheets: of a small plate worked out both ways."""
+    found = sheets_by_rows(plate, table, bound)
+    assert not is_small(plate) or found == sheets_by_definition(plate, table, bound)
+    return found
+
+
+def list_of(plate, errors):
+    """The least error of each count from 1 to M."""
+    ends = [end for end in plate.heights if may_end(plate, end)]
+    return [min(errors[plate.entry_of[end, m]] for end in ends) for m in range(1, greatest_count(plate) + 1)]
+
+
+# ---- What comes back: the calls
+
+
+def check_room(place, buffer, stated):
+    refuse(3, len(buffer) < stated, place)
+
+
+def check_cells(plate, head, table):
+    limits = bounds(plate, head)
+    refuse_first(6, table[:len(limits)], lambda i, cell: cell > limits[i])
+
+
+def check_table(table, head):
+    """1, 2, 3, 7, 6 of a table that is handed over."""
+    plate = plate_of(*head.settings())
+    check_room(1, table, len(plate.cells))
+    refuse(7, head.is_over())
+    check_cells(plate, head, table)
+    return plate
+
+
+def clear_table(table, height, members):
+    plate = plate_of(height, members)
+    check_room(1, table, len(plate.cells))
+    table[:len(plate.cells)] = [0] * len(plate.cells)
+    return Head(height, members)
+
+
+def add_column(table, head, column):
+    plate = plate_of(*head.settings())
+    check_room(1, table, len(plate.cells))
+    refuse(7, head.is_full())
+    check_column(column, head.height)
+    limits, more = bounds(plate, head), added_by(plate, column)
+    refuse_first(6, more, lambda i, added: added > 0 and table[i] > limits[i])
+    table[:len(more)] = [cell + added for cell, added in zip(table, more)]
+    return head.with_column()
+
+
+def check_settings_of_two(table, head, other, other_head):
+    plate = plate_of(*head.settings())
+    plate_of(*other_head.settings())
+    refuse(8, head.settings() != other_head.settings())
+    check_room(1, table, len(plate.cells))
+    check_room(2, other, len(plate.cells))
+    return plate
+
+
+def join_tables(table, head, other, other_head):
+    plate = check_settings_of_two(table, head, other, other_head)
+    refuse(7, head.is_over() or other_head.is_over() or head.with_all(other_head).is_over())
+    check_cells(plate, head, table)
+    check_cells(plate, other_head, other)
+    table[:len(plate.cells)] = [a + b for a, b, _ in zip(table, other, plate.cells)]
+    return head.with_all(other_head)
+
+
+def take_off(table, head, other, other_head):
+    plate = check_settings_of_two(table, head, other, other_head)
+    refuse(7, head.is_over() or other_head.is_over())
+    check_cells(plate, head, table)
+    check_cells(plate, other_head, other)
+    refuse(9, head.is_less_than(other_head))
+    limits = bounds(plate, head.without(other_head))
+    rest = [a - b for a, b, _ in zip(table, other, plate.cells)]
+    refuse_first(9, rest, lambda i, cell: not 0 <= cell <= limits[i])
+    table[:len(rest)] = rest
+    return head.without(other_head)
+
+
+def plan(table, head, bound, errors, thicknesses, leasts):
+    plate = plate_of(*head.settings())
+    most, size = greatest_count(plate), len(plate.entries)
+    for place, (buffer, stated) in enumerate([(table, len(plate.cells)), (errors, size), (thicknesses, size), (leasts, most)], 1):
+        check_room(place, buffer, stated)
+    check_table(table, head)
+    found = sheets(plate, table, bound)
+    errors[:size] = [error for error, _ in found]
+    thicknesses[:size] = [thickness for _, thickness in found]
+    leasts[:most] = list_of(plate, errors)
+    return most
+
+
+def read_back(height, members, errors, thicknesses, count, out):
+    plate = plate_of(height, members)
+    check_room(1, errors, len(plate.entries))
+    check_room(2, thicknesses, len(plate.entries))
+    refuse(10, not 1 <= count <= greatest_count(plate))
+    check_room(3, out, count + 1)
+    entries = [(errors[plate.entry_of[end, count]], end) for end in plate.heights if may_end(plate, end)]
+    least, height_now = min(entries)
+    refuse(11, least == NONE)
+    sequence = [height_now]
+    for layer in range(count, 0, -1):
+        t = thicknesses[plate.entry_of[sequence[0], layer]]
+        refuse(12, not is_layer(plate, sequence[0] - t, sequence[0]) or sequence[0] - t < -(plate.tmax - 1), layer)
+        sequence.insert(0, sequence[0] - t)
+    refuse(12, sequence[0] > 0)
+    out[:count + 1] = sequence
+    return least
+
+
+def recount(table, head, bound, sequence):
+    plate = check_table(table, head)
+    refuse(13, len(sequence) < 2 or not may_start(plate, sequence[0]))
+    for index, (below, above) in enumerate(layers(sequence), 1):
+        refuse(13, not is_layer(plate, below, above) or above > plate.height + plate.tmax - 1, index)
+        refuse(13, table[plate.cell_of[below, above - below]] > bound, index)
+    refuse(13, sequence[-1] < plate.height, len(sequence) - 1)
+    return sum(layer_errors(plate, table, sequence))
+
+
+def picture(column, height, members, start, thickness):
+    """Filled or not, and the share."""
+    plate = plate_of(height, members)
+    check_column(column, height)
+    refuse(13, start not in plate.starts)
+    refuse(13, thickness not in plate.thicknesses, 1)
+    return is_filled(column, start, thickness), share(column, start, thickness)
+
+
+def motor_height(step, z):
+    """The f32 whose eightfold is exactly z·s, with positive zero for 0."""
+    refuse(14, not 1 <= step <= 8192)
+    refuse(15, not -31 <= z <= 543)
+    height = z * step / 8 if z else 0.0
+    assert struct.unpack("<f", struct.pack("<f", height))[0] * 8 == z * step
+    return height
+
+
+# ---- Job file: one record
+
+
+FAULTS = {"cut": 16, "kind": 16, "length": 16, "body": 16, "unequal": 16, "tail": 16}
+"""The faults of a file and their numbers: fewer bytes left than a record's head has; a kind not allowed here; a length wrong for the kind; a
+body past the input; an end count unequal to the columns; bytes after the end record."""
+
+
+@dataclasses.dataclass(frozen=True)
+class State:
+    """The reading state: whether settings were read, whether the end was, what goes with the columns so far, and the bound."""
+
+    begun: bool = False
+    ended: bool = False
+    head: Head = Head(0, 0)
+    bound: int = 0
+
+    def with_settings(self, height, members, bound):
+        return dataclasses.replace(self, begun=True, head=dataclasses.replace(self.head, height=height, members=members), bound=bound)
+
+    def with_column(self):
+        return dataclasses.replace(self, head=self.head.with_column())
+
+
+def is_kind_allowed(kind, state):
+    """Exactly one kind 1 comes first, remarks aside; then columns; then one end. Remarks anywhere before the end."""
+    if kind == 1:
+        return not state.begun
+    if kind in (2, 3):
+        return state.begun
+    return 32768 <= kind <= 65535
+
+
+def is_length_wrong(kind, length):
+    return {1: length != 10, 2: length % 2 == 1, 3: length != 4}.get(kind, False)
+
+
+def boundaries_in(body):
+    return list(struct.unpack(f"<{len(body) // 2}H", body[:len(body) // 2 * 2]))
+
+
+def holds(check, *arguments):
+    """Whether a check refuses."""
+    try:
+        check(*arguments)
+    except Refused:
+        return True
+    return False
+
+
+def record_checks(data, at, state):
+    """The checks of a record in their order: a name, the number, and whether it holds. Of a body that is cut the missing bytes count as 0, so
+    that what is wrong with it besides is seen."""
+    left = max(0, len(data) - at)
+    yield "cut", FAULTS["cut"], left < 4
+    if left < 4:
+        return
+    length, kind = struct.unpack_from("<HH", data, at)
+    body = data[at + 4:at + 4 + length].ljust(length, b"\0")
+    yield "kind", FAULTS["kind"], not is_kind_allowed(kind, state)
+    yield "length", FAULTS["length"], is_length_wrong(kind, length)
+    yield "body", FAULTS["body"], left - 4 < length
+    if kind == 1:
+        height, members = struct.unpack_from("<HI", body.ljust(6, b"\0"))
+        yield "1", 1, holds(check_height, height)
+        yield "2", 2, holds(check_members, members)
+    if kind == 2:
+        yield "7", 7, state.head.is_full()
+        yield "4", 4, holds(check_count, boundaries_in(body))
+        yield "5", 5, holds(check_order, boundaries_in(body), state.head.height)
+    if kind == 3:
+        yield "unequal", FAULTS["unequal"], struct.unpack_from("<I", body.ljust(4, b"\0"))[0] != state.head.columns
+
+
+def holding(data, at, state):
+    """The names of all the checks that hold. After the end record there is one: that something is left."""
+    if state.ended:
+        return ["tail"] if at < len(data) else []
+    return [name for name, _, is_so in record_checks(data, at, state) if is_so]
+
+
+@dataclasses.dataclass(frozen=True)
+class Step:
+    """What a read tells, with its numbers, and where and in which state the reading goes on."""
+
+    what: str
+    numbers: tuple
+    at: int
+    state: State
+
+
+def read_record(data, at, state):
+    """A place past the input counts as nothing left, and after the end record, nothing being left, the end is answered again. In a file each
+    place is the record's first byte."""
+    if state.ended:
+        if at < len(data):
+            return Step("refused", (FAULTS["tail"], at), at, state)
+        return Step("end", (state.head.columns,), at, state)
+    for _, number, is_so in record_checks(data, at, state):
+        if is_so:
+            return Step("refused", (number, at), at, state)
+    length, kind = struct.unpack_from("<HH", data, at)
+    body, after = data[at + 4:at + 4 + length], at + 4 + length
+    if kind == 1:
+        asked = struct.unpack("<HII", body)
+        return Step("settings", asked, after, state.with_settings(*asked))
+    if kind == 2:
+        return Step("column", (at + 4, length // 2), after, state.with_column())
+    if kind == 3:
+        return Step("end", (state.head.columns,), after, dataclasses.replace(state, ended=True))
+    return Step("remark", (), after, state)
+
+
+# ---- Job file: the whole of it
+
+
+def is_too_large(plate, most):
+    return max(len(plate.cells), len(plate.entries)) > most
+
+
+def read_file(data, most):
+    """The last state and the columns, the first record at fault deciding; 17 at the settings record, straight after 1 and 2 there, for a table
+    or sheet of more than so many entries."""
+    at, state, columns = 0, State(), []
+    while True:
+        step = read_record(data, at, state)
+        if step.what == "refused":
+            raise Refused(*step.numbers)
+        if step.what == "settings":
+            refuse(17, is_too_large(plate_of(*step.numbers[:2]), most), at)
+        if step.what == "column":
+            columns.append(boundaries_in(data[at + 4:step.at]))
+        at, state = step.at, step.state
+        if step.what == "end" and at == len(data):
+            return state, columns
+
+
+def read_job(data, most, table):
+    """A job read into a lent table: the file's refusals, then 3, since only its settings say how long the table is. Answers what goes with the
+    table, and the bound."""
+    state, columns = read_file(data, most)
+    plate = plate_of(*state.head.settings())
+    check_room(1, table, len(plate.cells))
+    table[:len(plate.cells)] = table_of(plate, columns)
+    return state.head, state.bound
+
+
+# ---- The planning program
+
+
+def planned_lines(plate, table, head, bound):
+    errors, thicknesses, leasts = [0] * len(plate.entries), [0] * len(plate.entries), [0] * greatest_count(plate)
+    most = plan(table, head, bound, errors, thicknesses, leasts)
+    yield f"height {head.height} columns {head.columns} counts {most}"
+    for count in range(1, most + 1):
+        sequence = [0] * (count + 1)
+        try:
+            error = read_back(head.height, head.members, errors, thicknesses, count, sequence)
+            yield " ".join(map(str, [count, error, *sequence]))
+        except Refused as refusal:
+            assert refusal.number == 11
+            yield f"{count} none"
+
+
+def program_lines(data):
+    """What the planning program prints for the bytes on its standard input."""
+    try:
+        refuse(17, len(data) > MOST_BYTES)
+        state, columns = read_file(data, MOST_ENTRIES)
+    except Refused as refusal:
+        return [str(refusal)]
+    plate = plate_of(*state.head.settings())
+    return list(planned_lines(plate, table_of(plate, columns), state.head, state.bound))
