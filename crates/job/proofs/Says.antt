@@ -10,7 +10,7 @@ use borrow.Author.Tests.{eqb-true, not-true, not-false}
 use lib.Dec.{eqb}
 use lib.ListN.{length}
 use Rattle.lists.specs.Checks.{first}
-use Rattle.lists.proofs.Checks.{first-none, first-later}
+use Rattle.lists.proofs.Checks.{first-none, first-later, first-earlier}
 use Rattle.plate.specs.Refusal.{Told, done, refused, Numbered, toldBy}
 use Rattle.plate.specs.Settings.{settingsChecks}
 use Rattle.plate.specs.Head.{isFull}
@@ -20,7 +20,7 @@ use Rattle.record.specs.Frame.{lengthAt}
 use Rattle.record.specs.Faults.{tail, frameChecks}
 use Rattle.record.specs.Places.{placed}
 use Rattle.record.proofs.Frames.{frame-passed}
-use Rattle.record.proofs.Places.{placed-passed, first-earlier}
+use Rattle.record.proofs.Places.{placed-passed}
 use Rattle.job.specs.State.{begin, counted}
 use Rattle.job.specs.Kinds.{allowedHere, fits}
 use Rattle.job.specs.Record.{askedAt, columnsAt, boundariesAt, bodyChecks, Ready, kindChecks, recordKind, recordChecks, What, settings, column, ended, remark, readingOf, again, Moved, moved, readRecord}

@@ -4,4 +4,3 @@ pub mod Best
 pub mod Rewrite
 pub mod Spans
 pub mod Grid
-pub mod Past

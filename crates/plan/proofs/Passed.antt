@@ -58,7 +58,14 @@ module _ (held : Held) (errors thicknesses leasts : ℕ) where
               → Judges made (planRest held errors thicknesses leasts) (held .head .height) (held .head .members)
           table-judged k made j = record { says = j .says ∙ table-asks held (head-fine k) room ∙ rest-is; good = j .good }
 
-  -- passed: what is known then
+  -- passed: the list has room for every count
+  pub list-room : first (planChecks held errors thicknesses leasts) ≡ none → M (held .head .height) (held .head .members) ≤ leasts
+  unfolding planRest short
+  list-room e =
+      ltb-false leasts (M (held .head .height) (held .head .members))
+      (first-none (planRest held errors thicknesses leasts) .0 (first-later (headChecks (held .head)) (planRest held errors thicknesses leasts) e) .1 .1 .1 .0)
+
+  -- passed: what else is known then
   module _ {s : Settings} (k : SettingsFor (held .head) s) where
     pub plan-passed : none ≡ first (planChecks held errors thicknesses leasts) → Plannable held errors thicknesses leasts s
     unfolding planRest short
@@ -71,5 +78,5 @@ module _ (held : Held) (errors thicknesses leasts : ℕ) where
           ready = record { sound = k .sound; size = o .room; small = o .small };
           errors-whole = omega (arith, entries-for k, ltb-false errors (entries (held .head .height) (held .head .members)) (q .1 .0));
           thicknesses-whole = omega (arith, entries-for k, ltb-false thicknesses (entries (held .head .height) (held .head .members)) (q .1 .1 .0));
-          leasts-whole = omega (arith, counts-for k, ltb-false leasts (M (held .head .height) (held .head .members)) (q .1 .1 .1 .0));
+          leasts-whole = omega (arith, counts-for k, list-room (sym e));
         }

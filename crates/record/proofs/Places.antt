@@ -54,12 +54,3 @@ module _ (at : ℕ) where
       go : (b : Bool) → cond b (some (c .says)) (first cs) ≡ some r → (first cs ≡ some r → r .place ≡ at) → r .place ≡ at
       go true q k = let f : c .says ≡ r = cc in sym (ap (λ (x : Numbered). x .place) f) ∙ a .0
       go false q k = k q
-
--- two lists asked one after the other, where nothing is said: nothing is said of the first
-pub first-earlier : (cs ds : List (Check Numbered)) → first (cs ++ ds) ≡ none → first cs ≡ none
-first-earlier [] ds e = refl
-first-earlier (c ∷ cs) ds e = go (c .holds) e (first-earlier cs ds)
-  where
-    go : (b : Bool) → cond b (some (c .says)) (first (cs ++ ds)) ≡ none → (first (cs ++ ds) ≡ none → first cs ≡ none) → cond b (some (c .says)) (first cs) ≡ none
-    go true q k = absurd (let z : _≡_ {A = ℕ} 0 1 = cc in omega arith)
-    go false q k = k q

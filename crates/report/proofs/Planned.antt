@@ -3,13 +3,10 @@ use mathlib.Core.Path.{_≡_, sym, ap, ap₂, _∙_}
 use mathlib.Core.List.{List}
 use Prim.Native.Nat.{ℕ, _≤_}
 use native.Mathlib.Omega.{arith}
-use borrow.Author.Tests.{ltb-false}
 use lib.ListN.{length}
-use Rattle.lists.proofs.Checks.{first-none, first-later}
-use Rattle.paper.specs.Sequence.{M}
 use Rattle.plate.specs.Refusal.{Told, told, numberOf}
 use Rattle.plate.specs.Call.{Does}
-use Rattle.plate.specs.Head.{heldIn, headChecks}
+use Rattle.plate.specs.Head.{heldIn}
 use Rattle.plate.specs.declared.refusal.Answer.{Answer}
 use Rattle.plate.specs.declared.refusal.Answer.the-variants as answer
 use Rattle.plate.specs.declared.refusal.Refusal.{Refusal}
@@ -19,7 +16,8 @@ use Rattle.load.specs.Load.{toldLoad, loading}
 use Rattle.load.specs.declared.Load.{Load}
 use Rattle.load.specs.declared.Loaded.{Loaded}
 use Rattle.load.specs.declared.Loaded.the-variants as loaded
-use Rattle.plan.specs.Plan.{Sheets, planRest, planning}
+use Rattle.plan.specs.Plan.{Sheets, planning}
+use Rattle.plan.proofs.Passed.{list-room}
 use Rattle.report.specs.Lines.{refusedLine}
 use Rattle.report.specs.Work.{blankSheets, sheetsText, plannedBy, plannedText, loadedBy, fileText}
 
@@ -37,14 +35,10 @@ module _ (l : Load) (table : List ℕ) (lent left : Sheets) (r : Answer) (d : Do
 
     -- the list has room for every count
     pub counted : counts ≤ length (lent .leasts)
-    unfolding planning planRest
+    unfolding planning
     counted =
-        let held = heldIn (l .head) table in
-        let rest = planRest held (length (lent .errors)) (length (lent .thicknesses)) (length (lent .leasts)) in
-        let f = finished (planning held (l .bound) lent) counts (sym (d .tells) ∙ ap told e) in
-        let q = first-none rest .0 (first-later (headChecks (l .head)) rest (f .0)) in
-        let l = ltb-false (length (lent .leasts)) (M (l .head .height) (l .head .members)) (q .1 .1 .1 .0) in
-        omega (arith, f .1)
+        let f = finished (planning (heldIn (l .head) table) (l .bound) lent) counts (sym (d .tells) ∙ ap told e) in
+        omega (arith, f .1, list-room (heldIn (l .head) table) (length (lent .errors)) (length (lent .thicknesses)) (length (lent .leasts)) (f .0))
 
 module _ (file : Told Job) (lent table : List ℕ) (r : Loaded) (d : Does (loading lent file) (toldLoad r) table) where
   by-load : (x : Loaded) → r ≡ x → loadedBy (toldLoad x) table ≡ fileText file lent

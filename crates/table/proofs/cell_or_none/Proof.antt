@@ -2,9 +2,9 @@
 use mathlib.Core.Path.{sym, refl}
 use native.Mathlib.Omega.{arith}
 use borrow.Author.Needs.{needs}
-use Rattle.lists.proofs.Past.{read-past}
+use lib.ListN.{List·getD-eq-default}
 use Rattle.table.proofs.cell_or_none.Statement.{statement}
 use Rattle.table.proofs.cell_or_none.Tie as tie
 
 pub cell-or-none-spec : {M : Type 1} → statement M
-cell-or-none-spec = tie.close (tie.spec (λ c. search needs) (λ c. search needs) (λ c. refl) (λ c. let a = c .before .args in sym (read-past (a .table .now) (a .at) 0 (omega arith))))
+cell-or-none-spec = tie.close (tie.spec (λ c. search needs) (λ c. search needs) (λ c. refl) (λ c. let a = c .before .args in sym (List·getD-eq-default (a .table .now) 0 {n = a .at} (omega arith))))
