@@ -72,7 +72,7 @@ fn added(given: [u64; 12], table: &mut [u32], column: &[u16]) -> Tabled {
 }
 
 pub(crate) fn add(line: &[u8], table: &mut [u32]) {
-    let mut column = [0u16; 100];
+    let mut column = [0u16; 200];
     lay16(&mut column, line, b';');
     let given = show::label(line);
     tabled(added(given, table, &column));
@@ -229,7 +229,7 @@ fn pictured(given: [u64; 12], column: &[u16]) {
 }
 
 pub(crate) fn picture(line: &[u8]) {
-    let mut column = [0u16; 100];
+    let mut column = [0u16; 200];
     lay16(&mut column, line, b';');
     let given = show::label(line);
     pictured(given, &column);

@@ -48,7 +48,7 @@ pub(crate) fn begins(line: &[u8], word: &[u8]) -> bool {
 
 // A number with one digit more, and the greatest where that is too great.
 fn tenfold(number: u64, digit: u64) -> u64 {
-    if 1844674407370955160 < number {
+    if (GREATEST - digit % 10) / 10 < number {
         return GREATEST;
     }
     number * 10 + digit % 10
