@@ -104,7 +104,7 @@ module _ (p : Plate) (bound n : ℕ) (some-layer : 1 ≤ n) where
           ∙ sym e
           ∙ ap (λ i. zs ! i) (sym d)
       go g f (no d) ih =
-          let l = lt-down g h (rw (f, e) at (a .rising k (omega arith))) in
+          let l = lt-down g h (rw (f, e) at (a .layers k (omega arith) .rises)) in
           let t : thickness zs k ≡ h - g = ap₂ (λ x y. natAbs (x -ℤ y)) e f ∙ difference-height g h (omega arith) in
           let x : h - thickness zs k ≡ g = omega arith in
           ap (λ i. heightsOf (upFrom i (layersUnder zs k) (h ∷ above)) ! j) x ∙ ih g f (omega arith)
@@ -135,7 +135,7 @@ module _ (p : Plate) (bound n : ℕ) (some-layer : 1 ≤ n) where
       e = at-datum p bound zs n (en .stack) n (omega arith)
 
       w : working.Built (rulesOf p bound) h (layersUnder zs n) × (working.errorOf (rulesOf p bound) h (layersUnder zs n) ≡ errorUnder p zs n)
-      w = built-at p bound n zs (en .stack) (rw c at (a .ends-below)) n (omega arith) h e
+      w = built-at p bound n zs (en .stack) (rw c at (a .ends-below)) h e
 
       b : length (heightsOf (upFrom h (layersUnder zs n) [])) ≡ suc n
       b = length-up h (layersUnder zs n) [] ∙ omega (arith, length-under zs n)
@@ -237,7 +237,7 @@ module _ (p : Plate) (bound n : ℕ) (some-layer : 1 ≤ n) where
 pub count-in-range : (p : Plate) (bound : ℕ) (zs : List ℤ) → Admissible p bound zs → count zs ≤ M (p .N) (p .T)
 count-in-range p bound zs a =
     let w = to-working p bound (count zs) (a .layered) zs a refl in
-    let b = tmin-least (p .T) (thickness zs 0) (a .stack .differences 0 (a .layered)) in
+    let b = tmin-least (p .T) (thickness zs 0) (a .stack .layers 0 (a .layered) .member) in
     rw (← w .1 .layers) (counts-most (p .N) (p .T) (working.count (w .0)) (b .0) (count-most (rulesOf p bound) (tmin (p .T)) thick (w .0) (w .1 .works)))
   where
     thick : (h t : ℕ) → working.Layer (rulesOf p bound) h t → tmin (p .T) ≤ t

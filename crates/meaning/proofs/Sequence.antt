@@ -8,14 +8,14 @@ use mathlib.Core.Bool.{true}
 use mathlib.Core.List.{List, [], _∷_}
 use native.Mathlib.Omega.{arith}
 use lib.Dec.{leb}
-use lib.ListN.{length}
+use lib.ListN.{length, getD}
 use lib.IntN.{ℤ, pos, negℤ, natAbs, _-ℤ_}
 use lib.Signed.{_≤ℤ_, _<ℤ_}
 use borrow.Author.Tests.{leb-true, le-leb}
 use Rattle.paper.specs.Layer.{Plate, allowed, tmax}
-use Rattle.paper.specs.Sequence.{_!_, thickness, Thinner, Before}
+use Rattle.paper.specs.Sequence.{_!_, thickness, IsLayer, Thinner, Before}
 use Rattle.paper.specs.Groups.{Usable}
-use Rattle.paper.proofs.Thicknesses.{and-true, tmax-le, allowed-tmax}
+use Rattle.paper.proofs.Thicknesses.{and-true, allowed-from, tmax-le}
 use Rattle.plate.specs.Datum.{datum, heightOf}
 use Rattle.plate.proofs.Datum.{le-up, le-down, lt-up, lt-down, height-only, difference-height, sum-height, pos-height, neg-height, datum-above}
 use Rattle.sequence.specs.Sequence as working
@@ -40,12 +40,12 @@ module _ (N T h t : ℕ) where
       let e = lt-down (h + t) (N + tmax T + 32) (rw (sum-height h t, pos-height (N + tmax T)) at (u .to)) in
       shape-in N T h t (u .member) (omega arith) (omega arith)
 
--- what holds between each boundary and the next, from the lowest up, holds at each place
-abbrev pub Steps : (ℤ → ℤ → Type 0) → ℤ → List ℤ → Type 0
+-- what holds between each height and the next, from the lowest up, holds at each place
+abbrev pub Steps : (ℕ → ℕ → Type 0) → ℕ → List ℕ → Type 0
 Steps P a [] = Unit {0}
 Steps P a (b ∷ bs) = P a b × Steps P b bs
 
-pub step-at : (P : ℤ → ℤ → Type 0) (a : ℤ) (bs : List ℤ) → Steps P a bs → (k : ℕ) → k < length bs → P ((a ∷ bs) ! k) ((a ∷ bs) ! suc k)
+pub step-at : (P : ℕ → ℕ → Type 0) (a : ℕ) (bs : List ℕ) → Steps P a bs → (k : ℕ) → k < length bs → P (getD (a ∷ bs) k 0) (getD (a ∷ bs) (suc k) 0)
 step-at P a [] s k l = absurd (omega arith)
 step-at P a (b ∷ bs) s zero l = s .0
 step-at P a (b ∷ bs) s (suc k) l = step-at P b bs (s .1) k (omega arith)
@@ -55,33 +55,24 @@ pub start-datum : (T : ℕ) (z : ℤ) → negℤ (pos (tmax T)) <ℤ z → 32 - 
 start-datum T z l = datum-above (32 - tmax T) z (rw (neg-height (tmax T) (tmax-le T)) at l)
 
 module _ (p : Plate) (bound : ℕ) where
-  -- a layer from a to b, and the same as it is worked with
-  pub record Step (a b : ℤ) : Type 0 where
-    pub rises : a <ℤ b
-    pub member : allowed (p .T) (natAbs (b -ℤ a)) ≡ true
-    pub within : p .layerError a (natAbs (b -ℤ a)) ≤ bound
+  -- the layer from a up to b is permitted, as it is worked with
+  abbrev pub Permitted : ℕ → ℕ → Type 0
+  Permitted a b = rulesOf p bound .may a (b - a) ≡ true
 
-  pub record WorkingStep (a b : ℕ) : Type 0 where
-    pub rises : a < b
-    pub thin : b - a ≤ tmax (p .T)
-    pub permitted : rulesOf p bound .may a (b - a) ≡ true
+  -- then it is document 01's, and back
+  pub step-up : (a b : ℕ) → Permitted a b → IsLayer p bound (heightOf a) (heightOf b)
+  step-up a b e =
+      let m = and-true (shape (p .N) (p .T) a (b - a)) (leb (p .layerError (heightOf a) (b - a)) bound) e in
+      let t = shape-allowed (p .N) (p .T) a (b - a) (m .0) in
+      let l : a < b = omega (arith, allowed-from (p .T) (b - a) t) in
+      let d = difference-height a b (omega arith) in
+      record { rises = lt-up a b l; member = rw d t; within = rw d (leb-true _ _ (m .1)) }
 
-  pub step-up : (a b : ℕ) → WorkingStep a b → Step (heightOf a) (heightOf b)
-  step-up a b s =
-      let d = difference-height a b (omega (arith, s .rises)) in
-      let m = and-true (shape (p .N) (p .T) a (b - a)) (leb (p .layerError (heightOf a) (b - a)) bound) (s .permitted) in
-      record { rises = lt-up a b (s .rises); member = rw d (shape-allowed (p .N) (p .T) a (b - a) (m .0)); within = rw d (leb-true _ _ (m .1)) }
-
-  pub step-down : (a b : ℕ) → Usable (p .N) (p .T) (heightOf a) (b - a) → Step (heightOf a) (heightOf b) → WorkingStep a b
+  pub step-down : (a b : ℕ) → Usable (p .N) (p .T) (heightOf a) (b - a) → IsLayer p bound (heightOf a) (heightOf b) → Permitted a b
   step-down a b u s =
       let l = lt-down a b (s .rises) in
-      let d = difference-height a b (omega arith) in
-      let w = rw d at (s .within) in
-      record {
-        rises = l;
-        thin = allowed-tmax (p .T) (b - a) (u .member);
-        permitted = simp (shape-down (p .N) (p .T) a (b - a) u, le-leb (p .layerError (heightOf a) (b - a)) bound w);
-      }
+      let w = rw (difference-height a b (omega arith)) at (s .within) in
+      simp (shape-down (p .N) (p .T) a (b - a) u, le-leb (p .layerError (heightOf a) (b - a)) bound w)
 
   -- ---- the two ends
 

@@ -7,15 +7,15 @@ use mathlib.Core.Bool.{true}
 use mathlib.Core.Option.{Option, none, some}
 use mathlib.Core.List.{List, [], _∷_}
 use native.Mathlib.Omega.{arith}
-use lib.ListN.{length, length-map}
+use lib.ListN.{length, getD, length-map}
 use lib.IntN.{ℤ, pos, natAbs, _-ℤ_}
 use lib.Signed.{_<ℤ_}
 use Rattle.paper.specs.Layer.{Plate, tmax}
 use Rattle.paper.specs.Sequence.{_!_, thickness, Stack, errorUnder, Thinner}
 use Rattle.paper.specs.Sheets.{missing, Ending, ChosenAt, lastOf, Entries}
-use Rattle.paper.specs.Groups.{Usable}
+use Rattle.paper.proofs.Thicknesses.{allowed-tmax}
 use Rattle.plate.specs.Datum.{datum, heightOf}
-use Rattle.plate.proofs.Datum.{difference-height, pos-height, lt-up, lt-down}
+use Rattle.plate.proofs.Datum.{difference-height, height-only, pos-height, lt-up}
 use Rattle.sequence.specs.Sequence as working
 use Rattle.sequence.specs.Sequence.{upFrom}
 use Rattle.sequence.specs.Least.{least, last, walk}
@@ -23,8 +23,8 @@ use Rattle.sequence.specs.Sheets.{mark}
 use Rattle.sequence.proofs.Order.{first-antisym}
 use Rattle.sequence.proofs.Least.{AtMost, at-most-some, Walked, walk-is, least-le, last-zero, last-none, walk-first}
 use Rattle.meaning.specs.Working.{rulesOf, heightsOf}
-use Rattle.meaning.proofs.Sequence.{Steps, step-at, Step, step-up, step-down, starts-up, starts-down, layersUnder, length-under, thinner-first, first-thinner}
-use Rattle.meaning.proofs.Stacks.{at-datum, layers-usable}
+use Rattle.meaning.proofs.Sequence.{Steps, step-at, Permitted, layersUnder, length-under, thinner-first, first-thinner}
+use Rattle.meaning.proofs.Stacks.{stack-up, at-datum, start-at, rising-datum, thickness-datum, permitted-at}
 
 -- ---- the places of boundaries that were listed from the top down
 
@@ -33,6 +33,11 @@ place-up h [] above j = let e : 0 + j ≡ j = omega arith in ap (λ i. heightsOf
 place-up h (t ∷ ts) above j =
     let e : suc (length ts) + j ≡ length ts + suc j = omega arith in
     ap (λ i. heightsOf (upFrom (h - t) ts (h ∷ above)) ! i) e ∙ place-up (h - t) ts (h ∷ above) (suc j)
+
+place-of : (hs : List ℕ) (k : ℕ) → k < length hs → heightsOf hs ! k ≡ heightOf (getD hs k 0)
+place-of [] k l = absurd (omega arith)
+place-of (h ∷ hs) zero l = refl
+place-of (h ∷ hs) (suc k) l = place-of hs k (omega arith)
 
 pub place-top : (h : ℕ) (ts above : List ℕ) → heightsOf (upFrom h ts above) ! length ts ≡ heightOf h
 place-top h ts above =
@@ -48,17 +53,14 @@ module _ (p : Plate) (bound : ℕ) where
 
   abbrev Standing : List ℕ → Type 0
   Standing [] = ⊥
-  Standing (a ∷ bs) = (working.starts (tmax (p .T)) a ≡ true) × Steps (Step p bound) (heightOf a) (heightsOf bs)
+  Standing (a ∷ bs) = (working.starts (tmax (p .T)) a ≡ true) × Steps (Permitted p bound) a bs
 
-  standing : (h : ℕ) (ts above : List ℕ) → working.Built (rulesOf p bound) h ts → Steps (Step p bound) (heightOf h) (heightsOf above)
-      → Standing (upFrom h ts above)
+  standing : (h : ℕ) (ts above : List ℕ) → working.Built (rulesOf p bound) h ts → Steps (Permitted p bound) h above → Standing (upFrom h ts above)
   standing h [] above b s = (b, s)
   standing h (t ∷ ts) above b s =
-      let x = b .0 .thick in
       let y = b .0 .above in
       let e : h - (h - t) ≡ t = omega arith in
-      standing (h - t) ts (h ∷ above) (b .1)
-      (step-up p bound (h - t) h (record { rises = omega arith; thin = rw e (b .0 .thin); permitted = rw e (b .0 .allowed) }), s)
+      standing (h - t) ts (h ∷ above) (b .1) (rw e (b .0 .allowed), s)
 
   last-up : (h t : ℕ) (ts above : List ℕ) → t ≤ h → thickness (heightsOf (upFrom h (t ∷ ts) above)) (length ts) ≡ t
   last-up h t ts above l =
@@ -76,55 +78,45 @@ module _ (p : Plate) (bound : ℕ) where
       ap₂ _+_ (error-up (h - t) ts (h ∷ above) (b .1))
       (ap₂ (p .layerError) (place-top (h - t) ts (h ∷ above)) (last-up h t ts above (b .0 .above)))
 
-  ending-of : (hs : List ℕ) (m : ℕ) (z : ℤ) → Standing hs → length (heightsOf hs) ≡ suc m → heightsOf hs ! m ≡ z → Ending p bound m z (heightsOf hs)
+  ending-of : (hs : List ℕ) (m : ℕ) (z : ℤ) → Standing hs → length hs ≡ suc m → heightsOf hs ! m ≡ z → Ending p bound m z (heightsOf hs)
   ending-of [] m z s l e = absurd s
   ending-of (a ∷ bs) m z s l e = record {
-    counts = l;
+    counts = length-map (a ∷ bs) heightOf ∙ l;
     ends = e;
-    stack = record {
-      rising = λ k u. at k u .rises;
-      starts-above = starts-up p bound a (s .0) .0;
-      starts-by = starts-up p bound a (s .0) .1;
-      differences = λ k u. at k u .member;
-      bounded = λ k u. at k u .within;
-    };
+    stack =
+        stack-up p bound (heightsOf (a ∷ bs)) m (λ k. getD (a ∷ bs) k 0) (λ k u. place-of (a ∷ bs) k (omega arith)) (s .0)
+        (λ k u. step-at (Permitted p bound) a bs (s .1) k (omega arith));
   }
-    where
-      at : (k : ℕ) → k < m → Step p bound (heightsOf (a ∷ bs) ! k) (heightsOf (a ∷ bs) ! suc k)
-      at k u = step-at (Step p bound) (heightOf a) (heightsOf bs) (s .1) k (omega arith)
 
   pub ending-up : (h : ℕ) (ts : List ℕ) → working.Built (rulesOf p bound) h ts → Ending p bound (length ts) (heightOf h) (heightsOf (upFrom h ts []))
   ending-up h ts b =
-      ending-of (upFrom h ts []) (length ts) (heightOf h) (standing h ts [] b tt) (let e = length-up h ts [] in omega arith) (place-top h ts [])
+      ending-of (upFrom h ts []) (length ts) (heightOf h) (standing h ts [] b tt) (let e = length-up h ts [] in omega (arith, length-map (upFrom h ts []) heightOf))
+      (place-top h ts [])
 
   -- ---- from the boundaries down to the layers
 
   module _ (m : ℕ) (zs : List ℤ) (a : Stack p bound zs m) (low : zs ! m <ℤ pos (p .N + tmax (p .T))) where
-    pub built-at : (k : ℕ) → k ≤ m → (h : ℕ) → zs ! k ≡ heightOf h
-        → working.Built (rulesOf p bound) h (layersUnder zs k) × (working.errorOf (rulesOf p bound) h (layersUnder zs k) ≡ errorUnder p zs k)
-    built-at zero l h e = (starts-down p bound h (rw (← e) (a .starts-above)) (rw (← e) (a .starts-by)), refl)
-    built-at (suc k) l h e = go (datum (zs ! k)) (at-datum p bound zs m a k (omega arith)) (λ g. built-at k (omega arith) g)
+    built-datum : (k : ℕ) → k ≤ m
+        → working.Built (rulesOf p bound) (datum (zs ! k)) (layersUnder zs k) × (working.errorOf (rulesOf p bound) (datum (zs ! k)) (layersUnder zs k) ≡ errorUnder p zs k)
+    built-datum zero l = (start-at p bound zs m a, refl)
+    built-datum (suc k) l = go (built-datum k (omega arith))
       where
-        go : (g : ℕ) → zs ! k ≡ heightOf g
-            → ((g : ℕ) → zs ! k ≡ heightOf g
-            → working.Built (rulesOf p bound) g (layersUnder zs k) × (working.errorOf (rulesOf p bound) g (layersUnder zs k) ≡ errorUnder p zs k))
-            → working.Built (rulesOf p bound) h (layersUnder zs (suc k))
-            × (working.errorOf (rulesOf p bound) h (layersUnder zs (suc k)) ≡ errorUnder p zs (suc k))
-        go g f ih =
-            let s : Step p bound (zs ! k) (zs ! suc k) = record {
-              rises = a .rising k (omega arith);
-              member = a .differences k (omega arith);
-              within = a .bounded k (omega arith);
-            } in
-            let r = lt-down g h (rw (f, e) at (a .rising k (omega arith))) in
-            let t : thickness zs k ≡ h - g = ap₂ (λ x y. natAbs (x -ℤ y)) e f ∙ difference-height g h (omega arith) in
-            let u : Usable (p .N) (p .T) (heightOf g) (h - g) = rw (t, f) at (layers-usable p bound zs m a low k (omega arith)) in
-            let w = step-down p bound g h u (rw (f, e) at s) in
-            let b : h - (h - g) ≡ g = omega arith in
-            let i = ih g f in (
-              rw (t, b) (record { thick = omega arith; thin = w .thin; above = omega arith; allowed = rw b (w .permitted) }, i .0),
-              rw (t, b) (ap₂ _+_ (i .1) (ap₂ (p .layerError) (sym f) (sym t))),
+        go : working.Built (rulesOf p bound) (datum (zs ! k)) (layersUnder zs k) × (working.errorOf (rulesOf p bound) (datum (zs ! k)) (layersUnder zs k) ≡ errorUnder p zs k)
+            → working.Built (rulesOf p bound) (datum (zs ! suc k)) (layersUnder zs (suc k))
+            × (working.errorOf (rulesOf p bound) (datum (zs ! suc k)) (layersUnder zs (suc k)) ≡ errorUnder p zs (suc k))
+        go i =
+            let r = rising-datum p bound zs m a k (omega arith) in
+            let t = thickness-datum p bound zs m a k (omega arith) in
+            let n = allowed-tmax (p .T) (thickness zs k) (a .layers k (omega arith) .member) in
+            let w = permitted-at p bound zs m a low k (omega arith) in
+            let b : datum (zs ! suc k) - thickness zs k ≡ datum (zs ! k) = omega arith in (
+              rw b (record { thick = omega arith; thin = n; above = omega arith; allowed = rw (b, t) w }, i .0),
+              rw b (ap₂ _+_ (i .1) (ap (λ (z : ℤ). p .layerError z (thickness zs k)) (sym (at-datum p bound zs m a k (omega arith))))),
             )
+
+    pub built-at : (h : ℕ) → zs ! m ≡ heightOf h
+        → working.Built (rulesOf p bound) h (layersUnder zs m) × (working.errorOf (rulesOf p bound) h (layersUnder zs m) ≡ errorUnder p zs m)
+    built-at h e = rw (height-only h (datum (zs ! m)) (sym e ∙ at-datum p bound zs m a m (omega arith))) (built-datum m (omega arith))
 
   -- ---- one height and one count
   module _ (m h : ℕ) (high : h < p .N + tmax (p .T) + 32) where
@@ -138,7 +130,7 @@ module _ (p : Plate) (bound : ℕ) where
 
     below : (zs : List ℤ) → Ending p bound m (heightOf h) zs → Below zs
     below zs a =
-        let b = built-at m zs (a .stack) (rw (a .ends, pos-height (p .N + tmax (p .T))) (lt-up h (p .N + tmax (p .T) + 32) high)) m (omega arith) h (a .ends) in
+        let b = built-at m zs (a .stack) (rw (a .ends, pos-height (p .N + tmax (p .T))) (lt-up h (p .N + tmax (p .T) + 32) high)) h (a .ends) in
         let x = at-most-some _ _
         (subst (λ (k : ℕ). AtMost (least (rulesOf p bound) k h) (working.errorOf (rulesOf p bound) h (layersUnder zs m))) (length-under zs m)
         (least-le (rulesOf p bound) h (layersUnder zs m) (b .0))) in

@@ -1,7 +1,9 @@
--- Layers over one another: boundaries rise, so each lies over the datum, and under N + tmax where the last does. So each layer is one that a
--- sequence can have. Assumes nothing.
+-- Layers over one another, as document 01 has them and over heights counted from the datum: put together from these, and taken apart into them.
+-- Boundaries rise, so each lies over the datum, and under N + tmax where the last does; so each layer is one that a sequence can have, and
+-- it is permitted. Assumes nothing.
 use Prim.Native.Nat.{ℕ, zero, suc, _+_, _-_, _≤_, _<_}
-use mathlib.Core.Path.{_≡_, sym, ap, ap₂, _∙_}
+use mathlib.Core.Path.{_≡_, sym, ap, ap₂, _∙_, subst}
+use mathlib.Core.Bool.{true}
 use mathlib.Core.List.{List}
 use native.Mathlib.Omega.{arith}
 use lib.IntN.{ℤ, pos, natAbs, _+ℤ_, _-ℤ_}
@@ -12,7 +14,17 @@ use Rattle.paper.specs.Groups.{Usable}
 use Rattle.paper.proofs.Thicknesses.{tmax-le}
 use Rattle.plate.specs.Datum.{datum, heightOf}
 use Rattle.plate.proofs.Datum.{height-datum, datum-above, lt-up, lt-down, sum-height, difference-height, pos-height, neg-height}
-use Rattle.meaning.proofs.Sequence.{start-datum}
+use Rattle.sequence.specs.Sequence.{starts}
+use Rattle.meaning.proofs.Sequence.{start-datum, Permitted, step-up, step-down, starts-up, starts-down}
+
+-- from the heights of its boundaries
+pub stack-up : (p : Plate) (bound : ℕ) (zs : List ℤ) (m : ℕ) (h : ℕ → ℕ) → ((k : ℕ) → k ≤ m → zs ! k ≡ heightOf (h k))
+    → starts (tmax (p .T)) (h 0) ≡ true → ((k : ℕ) → k < m → Permitted p bound (h k) (h (suc k))) → Stack p bound zs m
+stack-up p bound zs m h is s permitted = record {
+  starts-above = rw (is 0 (omega arith)) (starts-up p bound (h 0) s .0);
+  starts-by = rw (is 0 (omega arith)) (starts-up p bound (h 0) s .1);
+  layers = λ k l. rw (is k (omega arith), is (suc k) l) (step-up p bound (h k) (h (suc k)) (permitted k l));
+}
 
 module _ (p : Plate) (bound : ℕ) (zs : List ℤ) (m : ℕ) (a : Stack p bound zs m) where
   pub over-start : (k : ℕ) → k ≤ m → 32 - tmax (p .T) < datum (zs ! k)
@@ -20,22 +32,29 @@ module _ (p : Plate) (bound : ℕ) (zs : List ℤ) (m : ℕ) (a : Stack p bound 
   over-start (suc k) l =
       let o = over-start k (omega arith) in
       let e = height-datum (zs ! k) (omega arith) in
-      omega (arith, datum-above (datum (zs ! k)) (zs ! suc k) (rw e (a .rising k (omega arith))))
+      omega (arith, datum-above (datum (zs ! k)) (zs ! suc k) (rw e (a .layers k (omega arith) .rises)))
 
   pub at-datum : (k : ℕ) → k ≤ m → zs ! k ≡ heightOf (datum (zs ! k))
   at-datum k l = sym (height-datum (zs ! k) (omega (arith, over-start k l)))
 
-  rising-datum : (k : ℕ) → k < m → datum (zs ! k) < datum (zs ! suc k)
-  rising-datum k l = lt-down (datum (zs ! k)) (datum (zs ! suc k)) (rw (at-datum k (omega arith), at-datum (suc k) l) at (a .rising k l))
+  pub start-at : starts (tmax (p .T)) (datum (zs ! 0)) ≡ true
+  start-at = starts-down p bound (datum (zs ! 0)) (rw (← at-datum 0 (omega arith)) (a .starts-above)) (rw (← at-datum 0 (omega arith)) (a .starts-by))
+
+  pub rising-datum : (k : ℕ) → k < m → datum (zs ! k) < datum (zs ! suc k)
+  rising-datum k l = lt-down (datum (zs ! k)) (datum (zs ! suc k)) (rw (at-datum k (omega arith), at-datum (suc k) l) at (a .layers k l .rises))
+
+  -- the thickness of a layer
+  pub thickness-datum : (k : ℕ) → k < m → thickness zs k ≡ datum (zs ! suc k) - datum (zs ! k)
+  thickness-datum k l =
+      ap₂ (λ x y. natAbs (x -ℤ y)) (at-datum (suc k) l) (at-datum k (omega arith))
+      ∙ difference-height (datum (zs ! k)) (datum (zs ! suc k)) (omega (arith, rising-datum k l))
 
   -- a layer ends where the next begins
   layer-end : (k : ℕ) → k < m → zs ! k +ℤ pos (thickness zs k) ≡ heightOf (datum (zs ! suc k))
   layer-end k l =
       let r = rising-datum k l in
-      let f = at-datum k (omega arith) in
-      let d = difference-height (datum (zs ! k)) (datum (zs ! suc k)) (omega arith) in
       let s : datum (zs ! k) + (datum (zs ! suc k) - datum (zs ! k)) ≡ datum (zs ! suc k) = omega arith in
-      ap₂ (λ x y. x +ℤ pos y) f (ap₂ (λ x y. natAbs (x -ℤ y)) (at-datum (suc k) l) f ∙ d)
+      ap₂ (λ x y. x +ℤ pos y) (at-datum k (omega arith)) (thickness-datum k l)
       ∙ sum-height (datum (zs ! k)) (datum (zs ! suc k) - datum (zs ! k))
       ∙ ap heightOf s
 
@@ -55,5 +74,12 @@ module _ (p : Plate) (bound : ℕ) (zs : List ℤ) (m : ℕ) (a : Stack p bound 
       to =
           rw (layer-end k l, pos-height (p .N + tmax (p .T)))
           (lt-up (datum (zs ! suc k)) (p .N + tmax (p .T) + 32) (under-end (m - suc k) (suc k) (omega arith)));
-      member = a .differences k l;
+      member = a .layers k l .member;
     }
+
+    pub permitted-at : (k : ℕ) → k < m → Permitted p bound (datum (zs ! k)) (datum (zs ! suc k))
+    permitted-at k l =
+        let f = at-datum k (omega arith) in
+        let u = rw (thickness-datum k l) at (layers-usable k l) in
+        step-down p bound (datum (zs ! k)) (datum (zs ! suc k)) (subst (λ (z : ℤ). Usable (p .N) (p .T) z (datum (zs ! suc k) - datum (zs ! k))) f u)
+        (rw (f, at-datum (suc k) l) at (a .layers k l))

@@ -1,3 +1,4 @@
 pub mod Thicknesses
 pub mod Counts
+pub mod Stacks
 pub mod Shares

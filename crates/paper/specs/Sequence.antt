@@ -27,21 +27,25 @@ thickness zs k = natAbs (zs ! suc k -ℤ zs ! k)
 abbrev pub errorAt : Plate → List ℤ → ℕ → ℕ
 errorAt p zs k = p .layerError (zs ! k) (thickness zs k)
 
+-- the layer from the boundary a up to the boundary b is one that an admissible sequence can have: what is asked of each layer by itself
+pub record IsLayer (p : Plate) (bound : ℕ) (a b : ℤ) : Type 0 where
+  -- boundaries z0 < z1 < .. < zn
+  pub rises : a <ℤ b
+  -- every difference is in T
+  pub member : allowed (p .T) (natAbs (b -ℤ a)) ≡ true
+  -- every layer's error is at most the bound
+  pub within : p .layerError a (natAbs (b -ℤ a)) ≤ bound
+
 -- m layers over one another, started and within the bound as an admissible sequence's are: what such a sequence and the layers counted in
 -- an entry of a sheet share
 pub record Stack (p : Plate) (bound : ℕ) (zs : List ℤ) (m : ℕ) : Type 0 where
-  -- boundaries z0 < z1 < .. < zm
-  pub rising : (k : ℕ) → k < m → zs ! k <ℤ zs ! suc k
   -- -tmax < z0 ≤ 0
   pub starts-above : negℤ (pos (tmax (p .T))) <ℤ zs ! 0
   pub starts-by : zs ! 0 ≤ℤ pos 0
-  -- every difference is in T
-  pub differences : (k : ℕ) → k < m → allowed (p .T) (thickness zs k) ≡ true
-  -- every layer's error is at most the bound
-  pub bounded : (k : ℕ) → k < m → errorAt p zs k ≤ bound
+  pub layers : (k : ℕ) → k < m → IsLayer p bound (zs ! k) (zs ! suc k)
 
 pub record Admissible (p : Plate) (bound : ℕ) (zs : List ℤ) : Type 0 where
-  -- boundaries z0 < z1 < .. < zn with n ≥ 1
+  -- n ≥ 1
   pub layered : 1 ≤ count zs
   pub stack : Stack p bound zs (count zs)
   -- N ≤ zn < N + tmax

@@ -24,6 +24,7 @@ use plate::settings::Settings;
 use putting::put_all;
 use sheets::Least;
 use sheets::NONE;
+use sheets::at_row;
 use sheets::entry_index;
 use sheets::is_layer;
 use sheets::least_end;
@@ -54,7 +55,8 @@ fn may_use(table: &[u32], s: Settings, bound: u32, start: usize, t: usize) -> bo
     requires { ⌜ (start ≤ s .rows) × (t ≤ s .tmax) ⌝ }
     ensures { λ r. ⌜ r ≡ tableRules s bound (now (table .entry)) .may (atRow (s .tmax) start) t ⌝ }
 {
-    if !is_layer(s, start, t) {
+    let h = at_row(s.tmax as u32, start as u32);
+    if !is_layer(s.height as u16, s.members, s.tmax as u16, h as u32, t) {
         return false;
     }
     layer_cell(table, s, start, t) <= bound

@@ -48,13 +48,20 @@ fn thickness_at(thicknesses: &[u8], s: Settings, row: u32, m: usize) -> u32
 // Whether a layer of thickness t that ends at a row has the shape of one.
 fn is_layer_under(s: Settings, row: u32, t: u32) -> bool
     requires { ⌜ Sound s ⌝ }
+    requires { ⌜ row ≤ s .rows ⌝ }
     ensures { λ r. ⌜ r ≡ shape (s .height) (s .members) (atRow (s .tmax) row - t) t ⌝ }
 {
     if row < t {
         return false;
     }
-    let start = row - t;
-    is_layer(s, start as usize, t as usize)
+    let h = at_row(s.tmax as u32, row - t);
+    is_layer(
+        s.height as u16,
+        s.members,
+        s.tmax as u16,
+        h as u32,
+        t as usize,
+    )
 }
 
 // Walks down from the row `top` through n layers, notes each boundary's height, and says how the walk ends. Each step waits for the one

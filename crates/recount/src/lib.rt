@@ -47,10 +47,10 @@ fn look(table: &[u32], s: Settings, bound: u32, below: usize, above: usize) -> L
         return Layer::Out;
     }
     let t = above - below;
-    let row = row_of(s.tmax as u32, below as u32);
-    if !is_layer(s, row, t) {
+    if !is_layer(s.height as u16, s.members, s.tmax as u16, below as u32, t) {
         return Layer::Out;
     }
+    let row = row_of(s.tmax as u32, below as u32);
     let error = cell_of(table, s.tmax as u32, row as u32, t as u32);
     if bound < error {
         return Layer::Out;

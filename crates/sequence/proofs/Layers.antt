@@ -1,14 +1,14 @@
 -- The start heights and the shape of a layer, by what is used of them. Each is a row of tests, so it holds exactly where they all do.
 -- Assumes nothing.
 use Prim.Native.Nat.{ℕ, _+_, _≤_, _<_}
-use mathlib.Core.Path.{_≡_, refl}
+use mathlib.Core.Path.{_≡_, refl, ap}
 use mathlib.Core.Bool.{Bool, true, false, _&&_}
 use borrow.Author.Tests.{ltb-true, leb-true, lt-ltb, le-ltb, le-leb, lt-leb}
 use lib.Dec.{leb, ltb}
 use Rattle.paper.specs.Layer.{allowed, tmax}
 use Rattle.paper.proofs.Thicknesses.{and-true}
 use Rattle.sequence.specs.Sequence.{starts, lowestEnd}
-use Rattle.sequence.specs.Rules.{shape}
+use Rattle.sequence.specs.Rules.{shapeBy, shape}
 
 and-false : (a b : Bool) → b ≡ false → a && b ≡ false
 and-false true b e = e
@@ -37,28 +37,33 @@ module _ (tmax h : ℕ) where
     start-to = leb-true _ _ (and-true (ltb 32 (h + tmax)) (leb h 32) e .1)
 
 module _ (N T h t : ℕ) where
-  pub shape-in : allowed T t ≡ true → 32 < h + tmax T → h + t < lowestEnd N + tmax T → shape N T h t ≡ true
+  -- by what is known to be tmax
+  pub shape-by : (greatest : ℕ) → greatest ≡ tmax T → shapeBy N T greatest h t ≡ shape N T h t
   unfolding shape
+  shape-by greatest e = ap (λ (m : ℕ). shapeBy N T m h t) e
+
+  pub shape-in : allowed T t ≡ true → 32 < h + tmax T → h + t < lowestEnd N + tmax T → shape N T h t ≡ true
+  unfolding shape shapeBy
   shape-in a l u = simp (a, lt-ltb 32 (h + tmax T) l, lt-ltb (h + t) (lowestEnd N + tmax T) u)
 
   pub shape-barred : allowed T t ≡ false → shape N T h t ≡ false
-  unfolding shape
+  unfolding shape shapeBy
   shape-barred a = simp a
 
   pub shape-low : h + tmax T ≤ 32 → shape N T h t ≡ false
-  unfolding shape
+  unfolding shape shapeBy
   shape-low l =
       and-false (allowed T t) (ltb 32 (h + tmax T) && ltb (h + t) (lowestEnd N + tmax T)) (simp (le-ltb 32 (h + tmax T) l))
 
   pub shape-high : lowestEnd N + tmax T ≤ h + t → shape N T h t ≡ false
-  unfolding shape
+  unfolding shape shapeBy
   shape-high l =
       and-false (allowed T t) (ltb 32 (h + tmax T) && ltb (h + t) (lowestEnd N + tmax T))
       (and-false (ltb 32 (h + tmax T)) (ltb (h + t) (lowestEnd N + tmax T)) (le-ltb (h + t) (lowestEnd N + tmax T) l))
 
   module _ (e : shape N T h t ≡ true) where
     tests : (allowed T t ≡ true) × (ltb 32 (h + tmax T) ≡ true) × (ltb (h + t) (lowestEnd N + tmax T) ≡ true)
-    unfolding shape
+    unfolding shape shapeBy
     tests =
         let a = and-true (allowed T t) (ltb 32 (h + tmax T) && ltb (h + t) (lowestEnd N + tmax T)) e in
         let b = and-true (ltb 32 (h + tmax T)) (ltb (h + t) (lowestEnd N + tmax T)) (a .1) in

@@ -5,9 +5,13 @@ use lib.Dec.{leb, ltb}
 use Rattle.paper.specs.Layer.{allowed, tmax}
 use Rattle.sequence.specs.Sequence.{Rules, lowestEnd}
 
--- the shape of a layer from h of thickness t, whatever its error is: a thickness in T, from above -tmax, to below N + tmax
+-- the shape of a layer from h of thickness t, whatever its error is: a thickness in T, from above -tmax, to below N + tmax; for whoever has
+-- tmax at hand
+unfoldable pub shapeBy : ℕ → ℕ → ℕ → ℕ → ℕ → Bool
+shapeBy N T greatest h t = allowed T t && (ltb 32 (h + greatest) && ltb (h + t) (lowestEnd N + greatest))
+
 unfoldable pub shape : ℕ → ℕ → ℕ → ℕ → Bool
-shape N T h t = allowed T t && (ltb 32 (h + tmax T) && ltb (h + t) (lowestEnd N + tmax T))
+shape N T h t = shapeBy N T (tmax T) h t
 
 abbrev pub rules : ℕ → ℕ → ℕ → (ℕ → ℕ → ℕ) → Rules
 rules N T bound cell =

@@ -5,11 +5,10 @@ ghost use Prim.Native.Nat.{_<_};
 ghost use lib.ListN.{getD};
 ghost use Rattle.paper.specs.Sheets.{entryIndex, missing};
 ghost use Rattle.plate.specs.Datum.{rowOf, atRow};
+ghost use Rattle.sequence.specs.Rules.{shapeBy};
 ghost use Rattle.sequence.specs.Sequence.{starts};
-ghost use Rattle.sheets.specs.Layers.{isLayer};
 ghost use Rattle.sheets.specs.Entries.{leastFrom, leastEnd};
 ghost use Rattle.sheets.specs.Least.{IsLeast};
-use plate::settings::Settings;
 use plate::settings::is_allowed;
 
 // The entry that stands for none.
@@ -60,17 +59,17 @@ pub fn is_start(tmax: usize, h: usize) -> bool
     32 - h < tmax
 }
 
-// Whether a layer from row `start` of thickness t has the shape of one.
-pub fn is_layer(s: Settings, start: usize, t: usize) -> bool
-    ensures { λ r. ⌜ r ≡ isLayer s start t ⌝ }
+// Whether a layer from the height h of thickness t has the shape of one. The numbers are as narrow as settings allow, so that no sum overflows.
+pub fn is_layer(height: u16, members: u32, tmax: u16, h: u32, t: usize) -> bool
+    ensures { λ r. ⌜ r ≡ shapeBy height members tmax h t ⌝ }
 {
-    if !is_allowed(s.members, t) {
+    if !is_allowed(members, t) {
         return false;
     }
-    if s.rows < t {
+    if h as usize + tmax as usize <= 32 {
         return false;
     }
-    start <= s.rows - t
+    h as usize + t < height as usize + 32 + tmax as usize
 }
 
 // The entry at a place, and NONE past the sheet's end.

@@ -109,7 +109,7 @@ walk-down-spec =
     (λ c. omega arith)
     (λ c. omega arith)
     (λ c κs. let s = c .before .before .before .before .before .before in (s .pre .0, record { whole = s .pre .1 .0 .whole; count = omega (arith, s .pre .1 .0 .count); row = omega (arith, s .pre .1 .0 .row) }))
-    (λ c κs. c .before .before .before .before .before .before .before .pre .0)
+    (λ c κs. let s = c .before .before .before .before .before .before .before in (s .pre .0, omega (arith, s .pre .1 .0 .row)))
     (λ c. search needs)
     returns
     (λ c. step c)
