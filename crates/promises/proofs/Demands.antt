@@ -79,7 +79,7 @@ module _ (N T : ℕ) (settings : paper.Settings N T) (c : ℕ) (table : List ℕ
       let s = length-count n (a .0) low (a .1 .counts) in
       let l : length (a .0) ≡ n + 1 = omega arith in
       let t : take (n + 1) out ≡ a .0 = ap₂ take (sym l) (a .3) ∙ take-front (a .0) _ in
-      ap (λ (zs : List ℤ). answerOf (recounting held bound zs)) t ∙ recounts N T bound table settings (a .0) (a .1 .admissible) c b ∙ sym (a .2)
+      ap (λ (zs : List ℤ). answerOf (recounting held bound zs)) t ∙ recounts held settings bound (a .0) b (a .1 .admissible) ∙ sym (a .2)
 
 -- the same in the words of the plate's columns, where the table is theirs
 pub answers-columns : (N T : ℕ) (columns : List Column) (table : List ℕ) → Table (ofColumns N T columns) table → (bound n : ℕ) (answer : Told ℕ) (old out : List ℤ)
