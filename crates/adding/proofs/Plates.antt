@@ -16,12 +16,12 @@ use Rattle.paper.specs.Limits.{mostColumns}
 use Rattle.paper.specs.Layer.{Column, allowed, share, shares}
 use Rattle.paper.specs.Table.{cells, startAt, thicknessAt, cellOf}
 use Rattle.paper.proofs.Shares.{shares-last}
-use Rattle.plate.specs.Head.{limitOf}
+use Rattle.plate.specs.Head.{headOf, limitOf}
 use Rattle.plate.specs.Settings.{settingsChecks}
 use Rattle.plate.proofs.Heads.{few-not-full}
 use Rattle.column.specs.Order.{columnChecks}
 use Rattle.table.specs.Table.{short}
-use Rattle.table.specs.Plates.{tableOf, headOf, plateHeld}
+use Rattle.table.specs.Plates.{tableOf, plateHeld}
 use Rattle.table.proofs.Plates.{cell-limit, length-table, table-at}
 use Rattle.adding.specs.Adding.{addend, firstOverfull, overfullCell, addRest, added, adding}
 use Rattle.adding.proofs.Passed.{overfull-fine}

@@ -1,5 +1,5 @@
 -- What a file that is not refused holds: settings in order, columns in order, and no more than a table can have. On the way the state has the
--- settings once they were read, each column passed its checks by them, and the count is that of the columns; and the settings stay to the end.
+-- settings once they were read, each column passed its checks by them, and what goes with their table is the state's head; and the settings stay to the end.
 -- Assumes nothing.
 use mathlib.Core.Path.{_≡_, refl, sym, ap, subst, _∙_}
 use mathlib.Core.Bool.{true, false}
@@ -7,13 +7,15 @@ use mathlib.Core.List.{List, [], _∷_, _++_, append-nil}
 use mathlib.Core.Option.{none}
 use Prim.Native.Nat.{ℕ, zero, suc, _+_, _≤_, _<_}
 use native.Mathlib.Omega.{arith}
-use lib.ListN.{length, getD, length-append}
+use lib.ListN.{length, getD}
 use Rattle.lists.specs.Checks.{first}
 use Rattle.paper.specs.Limits.{mostColumns}
 use Rattle.paper.specs.Layer.{Column, columnOf}
 use Rattle.plate.specs.Refusal.{Told, done, refused}
 use Rattle.plate.specs.Settings.{settingsChecks}
-use Rattle.plate.proofs.Heads.{not-full}
+use Rattle.plate.specs.Head.{headOf, settledHead, more}
+use Rattle.plate.specs.declared.head.Head.{Head}
+use Rattle.plate.proofs.Heads.{head-last, not-full}
 use Rattle.column.specs.Order.{columnChecks}
 use Rattle.record.specs.Bytes.{words}
 use Rattle.record.specs.Frame.{bodyAt}
@@ -52,9 +54,12 @@ module _ (asking : Asking) (s : List ℕ) where
     pub settled : st .begun ≡ true → Asks (askedOf st)
     pub bare : st .begun ≡ false → columns ≡ []
     pub unended : st .ended ≡ false
-    pub counts : st .head .columns ≡ length columns
+    pub goes : headOf (st .head .height) (st .head .members) columns ≡ st .head
     pub few : st .head .columns ≤ mostColumns
     pub order : ColumnsInOrder (st .head .height) columns
+
+  pub counts : {st : State} {columns : List Column} → Under st columns → st .head .columns ≡ length columns
+  counts u = sym (ap (λ (h : Head). h .columns) (u .goes))
 
   step : (st : State) (columns : List Column) (at : ℕ) (m : Moved) (t : Told What) → Passes asking at t → SaysBy s st at m t → Under st columns
       → Under (m .state) (columns ++ columnIn s t)
@@ -70,19 +75,18 @@ module _ (asking : Asking) (s : List ℕ) where
         settled = λ _. asks;
         bare = λ e. none-yet;
         unended = u .unended;
-        counts = u .counts;
+        goes = ap (settledHead (a .height) (a .members)) (u .goes);
         few = u .few;
         order = subst (ColumnsInOrder (a .height)) (sym none-yet) tt;
       } in
       subst (Under (m .state)) (sym (append-nil columns)) (subst (λ (x : State). Under x columns) (sym (q .state)) new)
   step st columns at m (done (column from count)) p q u =
-      let l = length-append columns (columnOf (words s from count) ∷ []) in
       let room = not-full (st .head) (q .room) in
       let new : Under (counted st) (columns ++ (columnOf (words s from count) ∷ [])) = record {
         settled = u .settled;
         bare = λ e. absurd (let b = q .begun in let z : _≡_ {A = ℕ} 0 1 = cc in omega arith);
         unended = u .unended;
-        counts = omega (arith, u .counts);
+        goes = sym (head-last (st .head .height) (st .head .members) columns (columnOf (words s from count))) ∙ ap more (u .goes);
         few = omega arith;
         order = one-more (st .head .height) columns (words s from count) (u .order) (q .order);
       } in
@@ -96,7 +100,7 @@ module _ (asking : Asking) (s : List ℕ) where
     settled = λ b. absurd (let z : _≡_ {A = ℕ} 0 1 = cc in omega arith);
     bare = λ _. refl;
     unended = refl;
-    counts = refl;
+    goes = refl;
     few = omega arith;
     order = tt;
   }
@@ -122,7 +126,7 @@ module _ (asking : Asking) (s : List ℕ) where
             bits = rw (a .read-there) (quad-small s byte (bodyAt (a .place) + 2));
             low-bound = rw (a .read-there) (quad-small s byte (bodyAt (a .place) + 6));
             order = u .order;
-            few = omega (arith, u .few, u .counts);
+            few = omega (arith, u .few, counts u);
           }))
 
   -- ---- the settings stay

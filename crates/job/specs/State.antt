@@ -1,7 +1,7 @@
 -- The reading state: whether settings were read and whether the end was, what goes with the table that the file gives, and the bound. It is
 -- built here and nowhere else. Assumes nothing.
 use mathlib.Core.Bool.{true, false}
-use Rattle.plate.specs.Head.{headFor, clearedHead, more}
+use Rattle.plate.specs.Head.{clearedHead, settledHead, more}
 use Rattle.job.specs.declared.Asked.{Asked}
 use Rattle.job.specs.declared.State.{State}
 
@@ -14,7 +14,7 @@ abbrev pub begin : State → Asked → State
 begin st a = record {
   begun = true;
   ended = st .ended;
-  head = headFor (a .height) (a .members) (st .head .columns);
+  head = settledHead (a .height) (a .members) (st .head);
   bound = a .bound;
 }
 

@@ -4,3 +4,4 @@ pub mod Best
 pub mod Rewrite
 pub mod Spans
 pub mod Grid
+pub mod Perm

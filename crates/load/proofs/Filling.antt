@@ -16,11 +16,11 @@ use Rattle.paper.specs.Limits.{mostBoundaries}
 use Rattle.paper.specs.Layer.{Column, columnOf}
 use Rattle.paper.specs.Table.{cells}
 use Rattle.plate.specs.Refusal.{Told, done, refused, refusal}
-use Rattle.plate.specs.Head.{Held, heldIn}
+use Rattle.plate.specs.Head.{Held, heldIn, headOf}
 use Rattle.plate.specs.declared.refusal.Refusal.{Refusal}
 use Rattle.plate.proofs.Heads.{not-full}
 use Rattle.column.specs.Order.{columnChecks}
-use Rattle.table.specs.Plates.{tableOf, headOf, plateHeld}
+use Rattle.table.specs.Plates.{tableOf, plateHeld}
 use Rattle.table.proofs.Plates.{length-table}
 use Rattle.adding.specs.Adding.{adding, added}
 use Rattle.adding.proofs.Plates.{added-is, adds}
@@ -34,12 +34,12 @@ use Rattle.job.specs.Reached.{Reached, start, further, columnsTo}
 use Rattle.job.specs.declared.Asked.{Asked}
 use Rattle.job.specs.declared.State.{State}
 use Rattle.job.proofs.Says.{SaysBy, read-says}
-use Rattle.job.proofs.Ordering.{under, asks-for}
+use Rattle.job.proofs.Ordering.{counts, under, asks-for}
 use Rattle.load.specs.Load.{tooLarge, frontOf}
 use Rattle.load.specs.Heeding.{Heeded, CanAdd, addedAll, Cleared, filledBy}
 use Rattle.load.specs.declared.Heed.{Heed}
 use Rattle.load.specs.declared.Heed.the-variants as heed
-use Rattle.load.proofs.Heeding.{head-there, means, ends, refuses}
+use Rattle.load.proofs.Heeding.{means, ends, refuses}
 
 few-boundaries : (N : ℕ) (s : List ℕ) (from count : ℕ) → first (columnChecks N (words s from count)) ≡ none → count ≤ mostBoundaries
 unfolding columnChecks
@@ -105,7 +105,7 @@ module _ (most : ℕ) (s old : List ℕ) where
       held-is : st .begun ≡ true → plateHeld N T columns old ≡ heldIn (st .head) table
       held-is b =
           ap₂ heldIn
-          (ap (λ (a : Asked). headOf (a .height) (a .members) columns) (asks-for (tooLarge most) s (f .reached) b job is) ∙ head-there most s (f .reached))
+          (ap (λ (a : Asked). headOf (a .height) (a .members) columns) (asks-for (tooLarge most) s (f .reached) b job is) ∙ under (tooLarge most) s (f .reached) .goes)
           (sym (f .table-is ∙ ap (λ (t : Told Finished). tableBy t columns old) is))
 
       addable-by : (m : Moved) (t : Told What) → SaysBy s st at m t → CanAdd s (st .head) table t
@@ -119,7 +119,7 @@ module _ (most : ℕ) (s old : List ℕ) where
           let few = not-full (st .head) (q .room) in (
             few-boundaries (st .head .height) s from count (q .order),
             subst (λ (h : Held). first (adding h (columnOf bs) .checks) ≡ none) (held-is (q .begun))
-                (adds N T columns (columnOf bs) old (job-by (frontOf most s) cleared .2) fine order (omega (arith, u .counts))),
+                (adds N T columns (columnOf bs) old (job-by (frontOf most s) cleared .2) fine order (omega (arith, counts (tooLarge most) s u))),
           )
       addable-by m (done (ended c)) q = tt
       addable-by m (done remark) q = tt

@@ -1,18 +1,41 @@
--- What goes with a table: the limits on its columns as inequalities, each one comparison, read either way; and
--- the settings that it was made for. Assumes nothing.
+-- What goes with a table: of the table of more columns, of both, of the rest and in another order, each by the number of columns; the limits on
+-- its columns as inequalities, each one comparison, read either way; and the settings that it was made for. Assumes nothing.
 use mathlib.Core.Path.{_≡_, ap, subst}
 use mathlib.Core.Option.{none}
 use mathlib.Core.Bool.{true, false}
+use mathlib.Core.List.{List, [], _∷_, _++_, Perm}
 use Prim.Native.Nat.{ℕ, _+_, _-_, _≤_, _<_, min}
 use native.Mathlib.Omega.{arith}
 use borrow.Author.Tests.{ltb-true, ltb-false, leb-true, leb-false, lt-ltb, le-ltb, le-leb, lt-leb}
+use lib.ListN.{length, length-append}
 use Rattle.lists.specs.Checks.{first}
+use Rattle.lists.proofs.Perm.{length-perm}
 use Rattle.paper.specs.Limits.{mostColumns}
-use Rattle.plate.specs.Head.{headFor, both, less, capped, isOver, isFull, isLess, cellsOf, headChecks, SettingsFor}
+use Rattle.paper.specs.Layer.{Column}
+use Rattle.plate.specs.Head.{headFor, headOf, more, both, less, capped, isOver, isFull, isLess, cellsOf, headChecks, SettingsFor}
 use Rattle.plate.specs.Settings.{Sound}
 use Rattle.plate.specs.declared.head.Head.{Head}
 use Rattle.plate.specs.declared.settings.Settings.{Settings}
 use Rattle.plate.proofs.Sizes.{settings-fine}
+
+-- what goes with the tables of columns
+module _ (N T : ℕ) where
+  pub head-more : (columns : List Column) (column : Column) → more (headOf N T columns) ≡ headOf N T (column ∷ columns)
+  head-more columns column = ap (headFor N T) (omega arith)
+
+  pub head-perm : (xs ys : List Column) → Perm xs ys → headOf N T xs ≡ headOf N T ys
+  head-perm xs ys p = ap (headFor N T) (length-perm xs ys p)
+
+  -- one more at the end
+  pub head-last : (columns : List Column) (column : Column) → more (headOf N T columns) ≡ headOf N T (columns ++ (column ∷ []))
+  head-last columns column = ap (headFor N T) (omega (arith, length-append columns (column ∷ [])))
+
+  module _ (xs ys : List Column) where
+    pub head-both : both (headOf N T xs) (headOf N T ys) ≡ headOf N T (xs ++ ys)
+    head-both = ap (headFor N T) (omega (arith, length-append xs ys))
+
+    pub head-less : less (headOf N T (xs ++ ys)) (headOf N T ys) ≡ headOf N T xs
+    head-less = ap (headFor N T) (omega (arith, length-append xs ys))
 
 module _ (head : Head) where
   -- columns beyond the most

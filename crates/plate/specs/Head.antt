@@ -3,10 +3,12 @@
 use Prim.Native.Nat.{ℕ, _+_, _-_, min}
 use mathlib.Core.Path.{_≡_}
 use mathlib.Core.Bool.{Bool, _||_}
-use mathlib.Core.List.{List}
+use mathlib.Core.List.{List, []}
 use lib.Dec.{leb, ltb}
+use lib.ListN.{length}
 use Rattle.lists.specs.Checks.{Check}
 use Rattle.paper.specs.Limits.{mostColumns}
+use Rattle.paper.specs.Layer.{Column}
 use Rattle.paper.specs.Table.{cells, limit}
 use Rattle.plate.specs.Refusal.{Told, done, refusal, Numbered, check}
 use Rattle.plate.specs.Settings.{settingsChecks, settingsOf, Sound}
@@ -30,13 +32,21 @@ toldTable (Refused r) = refusal r
 
 -- ---- arithmetic
 
--- of these settings and so many columns
+-- from its parts, for this file and its laws; elsewhere a head is one of those below
 abbrev pub headFor : ℕ → ℕ → ℕ → Head
 headFor N T columns = record { height = N; members = T; columns = columns }
 
+-- of the table of these columns
+abbrev pub headOf : ℕ → ℕ → List Column → Head
+headOf N T columns = headFor N T (length columns)
+
 -- of a table that was cleared
 abbrev pub clearedHead : ℕ → ℕ → Head
-clearedHead N T = headFor N T 0
+clearedHead N T = headOf N T []
+
+-- the same columns under these settings
+abbrev pub settledHead : ℕ → ℕ → Head → Head
+settledHead N T head = headFor N T (head .columns)
 
 -- one column more
 abbrev pub more : Head → Head

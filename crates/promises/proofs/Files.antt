@@ -30,6 +30,7 @@ use Rattle.job.proofs.Says.{SaysBy, read-says}
 use Rattle.job.proofs.Folding.{jobEnding}
 use Rattle.job.proofs.Deciding.{fault-decides, end-decides as job-decides}
 use Rattle.job.proofs.Ordering.{under, same-asked}
+use Rattle.job.proofs.Ordering as ordering
 use Rattle.load.specs.Load.{tooLarge, jobOf, loadingJob, loading, loadAnswer, loadTable}
 use Rattle.load.proofs.Whole.{whole-by, Front, front-of, fitting}
 use Rattle.promises.specs.Runs.{Columns}
@@ -48,7 +49,7 @@ module _ (most : ℕ) (s : List ℕ) {st : State} {at : ℕ} (r : Reached (tooLa
 
   -- its count is that of the columns on the way there
   counts : e .0 ≡ length (columnsTo r)
-  counts = ended-says .counts ∙ under (tooLarge most) s r .counts
+  counts = ended-says .counts ∙ ordering.counts (tooLarge most) s (under (tooLarge most) s r)
 
   asked-there : askedOf (m .state) ≡ askedOf st
   asked-there = same-asked (m .state) st (ended-says .head) (ended-says .bound)

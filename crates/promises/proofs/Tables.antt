@@ -2,17 +2,16 @@
 -- half of its layer, so that a plate's table is in bounds for its number of columns and 6 is never given; the cell of a plate with a
 -- column more is the sum, of a plate joined from two the sum, and of the rest the difference. Assumes nothing.
 use mathlib.Core.Path.{_≡_, refl, sym, ap, ap₂, _∙_, subst}
-use mathlib.Core.Logic.{∥∥₁-elim}
 use mathlib.Core.Bool.{Bool, true, false, cond}
-use mathlib.Core.List.{List, [], _∷_, _++_, append-nil, Perm, Perm·refl, Perm·trans, perm-middle, List·Permᴰ, List·Permᴰ·nil, List·Permᴰ·cons, List·Permᴰ·swap, List·Permᴰ·trans}
+use mathlib.Core.List.{List, [], _∷_, _++_, append-nil, Perm, Perm·refl, Perm·trans, perm-middle}
 use mathlib.Core.Option.{none}
-use Prim.Native.Nat.{ℕ, suc, _+_, _-_, _*_, _/_, _≤_, _<_}
-use native.Mathlib.Nat.{ℕ-set}
+use Prim.Native.Nat.{ℕ, _+_, _-_, _*_, _/_, _≤_, _<_}
 use native.Mathlib.Omega.{arith}
 use borrow.Author.Tests.{le-ltb}
 use lib.ListN.{length, getD, length-append}
 use Rattle.lists.specs.Checks.{first}
 use Rattle.lists.proofs.Checks.{first-passed}
+use Rattle.lists.proofs.Perm.{length-perm}
 use Rattle.lists.proofs.Rewrite.{rewritten-at, length-rewritten}
 use Rattle.paper.specs.Limits.{mostColumns}
 use Rattle.paper.specs.Layer as paper
@@ -20,15 +19,14 @@ use Rattle.paper.specs.Layer.{allowed, Column, IsColumn, share, shares, ofColum
 use Rattle.paper.specs.Table.{cells, startAt, thicknessAt, cellOf, limit, Table, InBounds}
 use Rattle.plate.specs.Refusal.{Told, done}
 use Rattle.plate.specs.Call.{Call, answerOf, leftBy}
-use Rattle.plate.specs.Head.{Held, heldIn, headFor, clearedHead, more, limitOf, headChecks}
+use Rattle.plate.specs.Head.{Held, heldIn, headOf, clearedHead, more, limitOf, headChecks}
 use Rattle.plate.specs.Head as head
 use Rattle.plate.specs.Settings.{settingsChecks}
 use Rattle.plate.specs.declared.head.Head.{Head}
 use Rattle.plate.proofs.Calls.{passes}
-use Rattle.plate.proofs.Heads.{few-not-full}
+use Rattle.plate.proofs.Heads.{head-more, head-perm, head-both, head-less, few-not-full}
 use Rattle.column.specs.Order.{columnChecks}
 use Rattle.table.specs.Table.{short, Bounded, cleared, clearing}
-use Rattle.table.specs.Plates.{headOf}
 use Rattle.table.proofs.Plates.{cell-limit}
 use Rattle.adding.specs.Adding.{addend, overfullCell, addRest, added, adding}
 use Rattle.adding.proofs.Passed.{overfull-fine}
@@ -66,15 +64,6 @@ cell-perm : (T : ℕ) (xs ys : List Column) → Perm xs ys → (i : ℕ) → cel
 unfolding cellOf
 cell-perm T xs ys p i = ap (λ (x : ℕ). cond (allowed T (thicknessAt T i)) x 0) (shares-perm xs ys p (startAt T i) (thicknessAt T i))
 
-length-permᴰ : {xs ys : List Column} → List·Permᴰ xs ys → length xs ≡ length ys
-length-permᴰ List·Permᴰ·nil = refl
-length-permᴰ (List·Permᴰ·cons e d) = ap suc (length-permᴰ d)
-length-permᴰ (List·Permᴰ·swap e f) = refl
-length-permᴰ (List·Permᴰ·trans d e) = length-permᴰ d ∙ length-permᴰ e
-
-length-perm : (xs ys : List Column) → Perm xs ys → length xs ≡ length ys
-length-perm xs ys p = ∥∥₁-elim p (ℕ-set _ _) length-permᴰ
-
 -- the limit of more columns is the sum
 limit-sum : (T c d t : ℕ) → limit T (c + d) t ≡ limit T c t + limit T d t
 unfolding limit
@@ -100,7 +89,7 @@ runs-done call e = let p = passes call e in ap₂ holds (p .0) (p .1)
 pub tabulated-perm : (N T : ℕ) (xs ys : List Column) (h : Held) → Perm xs ys → Tabulated N T xs h → Tabulated N T ys h
 tabulated-perm N T xs ys h p t = record {
   table = record { size = t .table .size; holds = λ i l. t .table .holds i l ∙ cell-perm T xs ys p i };
-  goes = t .goes ∙ ap (headFor N T) (length-perm xs ys p);
+  goes = t .goes ∙ head-perm N T xs ys p;
 }
 
 tabulates-perm : (N T : ℕ) (xs ys : List Column) (run : Told Held) → Perm xs ys → Tabulates N T xs run → Tabulates N T ys run
@@ -168,7 +157,7 @@ module _ (N T : ℕ) (settings : paper.Settings N T) where
               ∙ ap (λ (x : ℕ). x + addend T column i) (t .holds i l)
               ∙ cell-more T column columns i;
         };
-        goes = ap (headFor N T) (omega arith);
+        goes = head-more N T columns column;
       };
     }
 
@@ -241,10 +230,6 @@ module _ (N T : ℕ) (settings : paper.Settings N T) where
   counted : {columns : List Column} {h : Held} → Tabulated N T columns h → h .head .columns ≡ length columns
   counted t = ap (λ (x : Head). x .columns) (t .goes)
 
-  -- what goes with a table is known by its settings and its count
-  goes-with : (x : Head) (columns : List Column) → x .height ≡ N → x .members ≡ T → x .columns ≡ length columns → x ≡ headOf N T columns
-  goes-with x columns e f g = λ i. headFor (e i) (f i) (g i)
-
   pub join-tabulates : (xs ys : List Column) (h k : Held) → Tabulated N T xs h → Tabulated N T ys k → length (xs ++ ys) ≤ mostColumns
       → Tabulates N T (xs ++ ys) (join h k)
   join-tabulates xs ys h k a b few =
@@ -259,7 +244,7 @@ module _ (N T : ℕ) (settings : paper.Settings N T) where
             size = omega (arith, joined-length h k, a .table .size);
             holds = λ i l. joined-cell h k ia i l ∙ ap₂ _+_ (a .table .holds i l) (b .table .holds i l) ∙ cell-both T xs ys i;
           };
-          goes = goes-with _ (xs ++ ys) (ia .height) (ia .members) (omega (arith, counted a, counted b));
+          goes = ap₂ head.both (a .goes) (b .goes) ∙ head-both N T xs ys;
         };
       }
 
@@ -278,7 +263,7 @@ module _ (N T : ℕ) (settings : paper.Settings N T) where
             size = omega (arith, taken-length h k, a .table .size);
             holds = λ i l. taken-cell h k ia i l ∙ omega (arith, parts i l);
           };
-          goes = goes-with _ xs (ia .height) (ia .members) (omega (arith, counted a, counted b));
+          goes = ap₂ head.less (a .goes) (b .goes) ∙ head-less N T xs ys;
         };
       }
     where

@@ -8,10 +8,9 @@ use Rattle.paper.specs.Table.{cells, Table}
 use Rattle.meaning.specs.Working.{cellSum}
 use Rattle.plate.specs.Refusal.{Told, done, refused}
 use Rattle.plate.specs.Call.{Call, answerOf, leftBy}
-use Rattle.plate.specs.Head.{Held, heldIn}
+use Rattle.plate.specs.Head.{Held, heldIn, headOf}
 use Rattle.plate.specs.declared.head.Head.{Head}
 use Rattle.table.specs.Table.{Bounded, clearing}
-use Rattle.table.specs.Plates.{headOf}
 use Rattle.adding.specs.Adding.{adding}
 use Rattle.joining.specs.Joining.{joining, taking}
 
