@@ -2,3 +2,4 @@ pub mod Thicknesses
 pub mod Counts
 pub mod Stacks
 pub mod Shares
+pub mod Pictures

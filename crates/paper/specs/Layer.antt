@@ -2,7 +2,7 @@
 -- number, below 0 as well: `pos n` is n, and `negsuc n` is -(n + 1). Assumes nothing.
 use Prim.Native.Nat.{ℕ, zero, suc, _+_, _-_, _/_, _%_, _^_, _≤_, _<_, min}
 use mathlib.Core.Path.{_≡_}
-use mathlib.Core.Bool.{Bool, cond, _&&_}
+use mathlib.Core.Bool.{Bool, true, false, not, cond, _&&_}
 use mathlib.Core.List.{List, [], _∷_}
 use lib.Dec.{leb, ltb, eqb}
 use lib.ListN.{length, getD}
@@ -85,10 +85,32 @@ pub record Between (bs : List ℕ) (z : ℤ) (t : ℕ) : Type 0 where
 abbrev pub filled : List ℕ → ℤ → ℕ → Bool
 filled bs z t = ltb (outsideCount bs z t) (insideCount bs z t)
 
+-- voxels wrongly filled or left out: a picture with straight walls fills a column through the whole layer or leaves it out, so a voxel is
+-- wrong where its column is filled and it is outside, or its column is left out and it is inside
+abbrev pub wrongAt : Bool → Bool → Bool
+wrongAt true there = not there
+wrongAt false there = there
+
+-- how many of a layer's voxels in one column are wrong, where the picture fills the column or not
+abbrev pub wrong : Bool → List ℕ → ℤ → ℕ → ℕ
+wrong fills bs z zero = 0
+wrong fills bs z (suc t) = wrong fills bs z t + cond (wrongAt fills (inside bs (z +ℤ pos t))) 1 0
+
 -- a layer's error is the sum of its shares
 abbrev pub shares : List Column → ℤ → ℕ → ℕ
 shares [] z t = 0
 shares (column ∷ columns) z t = share (column .boundaries) z t + shares columns z t
+
+-- a layer's wrong voxels under a picture of all its columns, the list of which are filled; columns past the list's end are left out
+abbrev pub wrongs : List Bool → List Column → ℤ → ℕ → ℕ
+wrongs fills [] z t = 0
+wrongs [] (column ∷ columns) z t = wrong false (column .boundaries) z t + wrongs [] columns z t
+wrongs (first ∷ fills) (column ∷ columns) z t = wrong first (column .boundaries) z t + wrongs fills columns z t
+
+-- the picture of a layer: that of each column
+abbrev pub pictures : List Column → ℤ → ℕ → List Bool
+pictures [] z t = []
+pictures (column ∷ columns) z t = filled (column .boundaries) z t ∷ pictures columns z t
 
 -- a plate to be planned: its settings, and the error of each of its layers, from z and of thickness t
 pub record Plate : Type 0 where

@@ -1,4 +1,5 @@
 pub mod Fine
+pub mod Errors
 pub mod Tables
 pub mod Groups
 pub mod Plans

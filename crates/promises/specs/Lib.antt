@@ -1,4 +1,5 @@
 pub mod Runs
+pub mod Errors
 pub mod Plans
 pub mod Refusals
 pub mod Told
