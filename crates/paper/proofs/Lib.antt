@@ -3,3 +3,4 @@ pub mod Counts
 pub mod Stacks
 pub mod Shares
 pub mod Pictures
+pub mod Outside
