@@ -128,6 +128,20 @@ pub tmin-least : (T t : ℕ) → allowed T t ≡ true → (1 ≤ tmin T) × (tmi
 unfolding tmin
 tmin-least T t a = let f = allowed-from T t a in let g = allowed-to T t a in least-from T 0 32 t a (omega arith) (omega arith)
 
+least-member : (T k n : ℕ) → 1 ≤ leastAbove T k n → allowed T (leastAbove T k n) ≡ true
+unfolding leastAbove
+least-member T k zero h = absurd (omega arith)
+least-member T k (suc n) h = go (allowed T (suc k)) refl (least-member T (suc k) n) h
+  where
+    go : (b : Bool) → allowed T (suc k) ≡ b → (1 ≤ leastAbove T (suc k) n → allowed T (leastAbove T (suc k) n) ≡ true)
+        → 1 ≤ cond b (suc k) (leastAbove T (suc k) n) → allowed T (cond b (suc k) (leastAbove T (suc k) n)) ≡ true
+    go true e ih h = e
+    go false e ih h = ih h
+
+pub tmin-member : (T : ℕ) → 1 ≤ tmax T → allowed T (tmin T) ≡ true
+unfolding tmin
+tmin-member T h = least-member T 0 32 (tmin-least T (tmax T) (tmax-member T h) .0)
+
 -- ---- the empty set
 
 -- a number none of whose k lowest bits is set is a multiple of 2 ^ k
