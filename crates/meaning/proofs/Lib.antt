@@ -4,6 +4,7 @@ pub mod Sheets
 pub mod Choice
 pub mod Usable
 pub mod Table
+pub mod Endings
 pub mod Groups
 pub mod Columns
 pub mod Facts

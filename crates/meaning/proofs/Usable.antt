@@ -8,7 +8,7 @@ use lib.IntN.{ℤ}
 use Rattle.paper.specs.Layer.{Plate}
 use Rattle.paper.specs.Sequence.{_!_, count, thickness, Admissible, errorUnder, error, Chosen, None}
 use Rattle.paper.specs.Groups.{Usable, part}
-use Rattle.paper.proofs.Stacks.{admissible-within}
+use Rattle.paper.proofs.Stacks.{admissible-again}
 use Rattle.meaning.specs.Working.{Agree}
 use Rattle.meaning.proofs.Stacks.{layers-usable}
 
@@ -20,7 +20,7 @@ sequence-usable p bound zs a k l = layers-usable p bound zs (count zs) (a .stack
 pub smaller-admissible : (p : Plate) (other : ℤ → ℕ → ℕ) → ((z : ℤ) (t : ℕ) → Usable (p .N) (p .T) z t → other z t ≤ p .layerError z t)
     → (bound : ℕ) (zs : List ℤ) → Admissible p bound zs → Admissible (part p other) bound zs
 smaller-admissible p other smaller bound zs a =
-    admissible-within p bound other bound zs a
+    admissible-again p other bound bound zs a
     (λ k l. omega (arith, a .stack .layers k l .within, smaller (zs ! k) (thickness zs k) (sequence-usable p bound zs a k l)))
 
 -- and one whose errors agree has the same admissible sequences, with the same errors

@@ -1,28 +1,33 @@
--- Layers, stacks and admissible sequences on another plate of the same height and thicknesses, or under another bound: of all that is asked of
--- them only the layers' errors change, so it is enough that these are within the bound. Assumes nothing.
+-- Layers over one another, taken under another bound or on another plate of the same height and thicknesses: only the layers' errors are asked
+-- again, and what they are compared with. Assumes nothing.
 use Prim.Native.Nat.{ℕ, suc, _≤_, _<_}
 use mathlib.Core.List.{List}
 use lib.IntN.{ℤ, natAbs, _-ℤ_}
 use Rattle.paper.specs.Layer.{Plate}
-use Rattle.paper.specs.Sequence.{_!_, count, thickness, IsLayer, Stack, Admissible}
+use Rattle.paper.specs.Sequence.{_!_, count, errorAt, IsLayer, Stack, Admissible}
 use Rattle.paper.specs.Groups.{part}
 
-module _ (p : Plate) (old : ℕ) (other : ℤ → ℕ → ℕ) (bound : ℕ) where
-  layer-within : (a b : ℤ) → IsLayer p old a b → other a (natAbs (b -ℤ a)) ≤ bound → IsLayer (part p other) bound a b
-  layer-within a b l w = record { rises = l .rises; member = l .member; within = w }
+module _ (p : Plate) (errors : ℤ → ℕ → ℕ) (bound other : ℕ) where
+  -- other errors of the layers, within another bound
+  layer-again : (a b : ℤ) → IsLayer p bound a b → errors a (natAbs (b -ℤ a)) ≤ other → IsLayer (part p errors) other a b
+  layer-again a b l within = record { rises = l .rises; member = l .member; within = within }
 
-  pub stack-within : (zs : List ℤ) (m : ℕ) → Stack p old zs m → ((k : ℕ) → k < m → other (zs ! k) (thickness zs k) ≤ bound) → Stack (part p other) bound zs m
-  stack-within zs m a w = record {
-    starts-above = a .starts-above;
-    starts-by = a .starts-by;
-    layers = λ k l. layer-within (zs ! k) (zs ! suc k) (a .layers k l) (w k l);
-  }
+  module _ (zs : List ℤ) where
+    pub stack-again : (m : ℕ) → Stack p bound zs m → ((k : ℕ) → k < m → errorAt (part p errors) zs k ≤ other) → Stack (part p errors) other zs m
+    stack-again m a within = record {
+      starts-above = a .starts-above;
+      starts-by = a .starts-by;
+      layers = λ k l. layer-again (zs ! k) (zs ! suc k) (a .layers k l) (within k l);
+    }
 
-  pub admissible-within : (zs : List ℤ) → Admissible p old zs → ((k : ℕ) → k < count zs → other (zs ! k) (thickness zs k) ≤ bound)
-      → Admissible (part p other) bound zs
-  admissible-within zs a w = record {
-    layered = a .layered;
-    stack = stack-within zs (count zs) (a .stack) w;
-    ends-from = a .ends-from;
-    ends-below = a .ends-below;
-  }
+    pub admissible-again : Admissible p bound zs → ((k : ℕ) → k < count zs → errorAt (part p errors) zs k ≤ other) → Admissible (part p errors) other zs
+    admissible-again a within = record {
+      layered = a .layered;
+      stack = stack-again (count zs) (a .stack) within;
+      ends-from = a .ends-from;
+      ends-below = a .ends-below;
+    }
+
+-- the plate's own errors, within another bound
+pub admissible-within : (p : Plate) (bound other : ℕ) (zs : List ℤ) → Admissible p bound zs → ((k : ℕ) → k < count zs → errorAt p zs k ≤ other) → Admissible p other zs
+admissible-within p bound other zs a within = admissible-again p (p .layerError) bound other zs a within
