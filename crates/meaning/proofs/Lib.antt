@@ -4,7 +4,7 @@ pub mod Sheets
 pub mod Choice
 pub mod Usable
 pub mod Table
-pub mod Endings
+pub mod Agreed
 pub mod Groups
 pub mod Columns
 pub mod Facts

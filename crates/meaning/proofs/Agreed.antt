@@ -1,6 +1,6 @@
--- Layers that end at a height of a sheet, on two plates of the same settings whose errors agree on the layers that a sequence can have. The
--- heights end below N + tmax, so every one of the layers is one that a sequence can have; the two plates have the same layers that end there,
--- with the same errors, so the same chosen ones and the same entries. A plate and the plate of its table are such two. Assumes nothing.
+-- Two plates of the same settings whose errors agree on the layers that a sequence can have: they have the same entries of the sheets, and the
+-- same least errors. The heights of a sheet end below N + tmax, so layers that end there are ones that a sequence can have; on the two plates
+-- they are the same, with the same errors, and so are the chosen ones. Assumes nothing.
 use Prim.Native.Nat.{ℕ, zero, suc, _+_, _≤_, _<_}
 use mathlib.Core.Path.{_≡_, refl, sym, ap₂, _∙_}
 use mathlib.Core.List.{List}
@@ -8,15 +8,13 @@ use native.Mathlib.Omega.{arith}
 use lib.IntN.{ℤ, pos}
 use lib.Signed.{_<ℤ_}
 use Rattle.paper.specs.Layer.{Plate, tmax}
-use Rattle.paper.specs.Table.{Table, cellAt, ofTable}
-use Rattle.paper.specs.Sequence.{_!_, thickness, errorAt, errorUnder}
+use Rattle.paper.specs.Sequence.{_!_, thickness, errorAt, errorUnder, error}
 use Rattle.paper.specs.Sheets.{Ending, ChosenAt, Entries}
-use Rattle.paper.specs.Groups.{part}
+use Rattle.paper.specs.Groups.{part, LeastError}
 use Rattle.paper.proofs.Stacks.{stack-again}
 use Rattle.meaning.specs.Working.{Agree}
 use Rattle.meaning.proofs.Stacks.{layers-usable}
-use Rattle.meaning.proofs.Usable.{agree-back}
-use Rattle.meaning.proofs.Table.{table-agrees}
+use Rattle.meaning.proofs.Usable.{same-admissible, same-error, agree-back}
 
 -- one way
 module _ (p : Plate) (other : ℤ → ℕ → ℕ) (agree : Agree p other) (bound m : ℕ) (z : ℤ) (low : z <ℤ pos (p .N + tmax (p .T))) (zs : List ℤ)
@@ -66,8 +64,19 @@ same-entries p other agree bound m z low e t n = record {
   none = λ f. n .none (λ zs a. f zs (same-ending p other agree bound m z low zs a));
 }
 
--- the entries of a plate's table are the plate's
-pub table-entries : (p : Plate) (buffer : List ℕ) → Table p buffer → (bound m : ℕ) (z : ℤ) → z <ℤ pos (p .N + tmax (p .T)) → (e t : ℕ)
-    → Entries (ofTable (p .N) (p .T) buffer) bound m z e t → Entries p bound m z e t
-table-entries p buffer table bound m z low e t n =
-    same-entries (ofTable (p .N) (p .T) buffer) (p .layerError) (agree-back p (cellAt (p .T) buffer) (table-agrees p buffer table)) bound m z low e t n
+-- the least error of a count is the same
+pub same-least-error : (p : Plate) (other : ℤ → ℕ → ℕ) → Agree p other → (bound n e : ℕ) → LeastError p bound n e → LeastError (part p other) bound n e
+same-least-error p other agree bound n e x = record {
+  one = x .one;
+  least = record {
+    admissible = same-admissible p other agree bound (x .one) (x .least .admissible);
+    counts = x .least .counts;
+    least = λ ys a l.
+        let b = same-admissible (part p other) (p .layerError) (agree-back p other agree) bound ys a in
+        omega (arith, its, same-error p other agree bound ys b, x .least .least ys b l);
+  };
+  its = sym its ∙ x .its;
+}
+  where
+    its : error p (x .one) ≡ error (part p other) (x .one)
+    its = same-error p other agree bound (x .one) (x .least .admissible)
