@@ -1,5 +1,7 @@
 pub mod Fine
 pub mod Errors
+pub mod Largest
+pub mod Accepted
 pub mod Tables
 pub mod Groups
 pub mod Plans
