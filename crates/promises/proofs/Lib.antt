@@ -11,3 +11,4 @@ pub mod Told
 pub mod Places
 pub mod Files
 pub mod Demands
+pub mod Filled
