@@ -7,6 +7,7 @@ pub mod Groups
 pub mod Plans
 pub mod Recounts
 pub mod Refusals
+pub mod Orders
 pub mod Told
 pub mod Places
 pub mod Files
