@@ -13,3 +13,4 @@ pub mod Places
 pub mod Files
 pub mod Demands
 pub mod Filled
+pub mod Counts
