@@ -12,7 +12,7 @@ use Rattle.lists.specs.Checks.{first}
 use Rattle.lists.proofs.Perm.{length-perm}
 use Rattle.paper.specs.Limits.{mostColumns}
 use Rattle.paper.specs.Layer.{Column}
-use Rattle.plate.specs.Head.{headFor, headOf, more, both, less, capped, isOver, isFull, isLess, cellsOf, headChecks, SettingsFor}
+use Rattle.plate.specs.Head.{clearedHead, withColumns, headOf, more, both, less, capped, isOver, isFull, isLess, cellsOf, headChecks, SettingsFor}
 use Rattle.plate.specs.Settings.{Sound}
 use Rattle.plate.specs.declared.head.Head.{Head}
 use Rattle.plate.specs.declared.settings.Settings.{Settings}
@@ -21,21 +21,21 @@ use Rattle.plate.proofs.Sizes.{settings-fine}
 -- what goes with the tables of columns
 module _ (N T : ℕ) where
   pub head-more : (columns : List Column) (column : Column) → more (headOf N T columns) ≡ headOf N T (column ∷ columns)
-  head-more columns column = ap (headFor N T) (omega arith)
+  head-more columns column = ap (withColumns (clearedHead N T)) (omega arith)
 
   pub head-perm : (xs ys : List Column) → Perm xs ys → headOf N T xs ≡ headOf N T ys
-  head-perm xs ys p = ap (headFor N T) (length-perm xs ys p)
+  head-perm xs ys p = ap (withColumns (clearedHead N T)) (length-perm xs ys p)
 
   -- one more at the end
   pub head-last : (columns : List Column) (column : Column) → more (headOf N T columns) ≡ headOf N T (columns ++ (column ∷ []))
-  head-last columns column = ap (headFor N T) (omega (arith, length-append columns (column ∷ [])))
+  head-last columns column = ap (withColumns (clearedHead N T)) (omega (arith, length-append columns (column ∷ [])))
 
   module _ (xs ys : List Column) where
     pub head-both : both (headOf N T xs) (headOf N T ys) ≡ headOf N T (xs ++ ys)
-    head-both = ap (headFor N T) (omega (arith, length-append xs ys))
+    head-both = ap (withColumns (clearedHead N T)) (omega (arith, length-append xs ys))
 
     pub head-less : less (headOf N T (xs ++ ys)) (headOf N T ys) ≡ headOf N T xs
-    head-less = ap (headFor N T) (omega (arith, length-append xs ys))
+    head-less = ap (withColumns (clearedHead N T)) (omega (arith, length-append xs ys))
 
 module _ (head : Head) where
   -- columns beyond the most
@@ -51,7 +51,7 @@ module _ (head : Head) where
   capped-same e =
       let l = not-over e in
       let m : min (head .columns) mostColumns ≡ head .columns = omega arith in
-      ap (headFor (head .height) (head .members)) m
+      ap (withColumns head) m
 
   pub capped-not-over : isOver (capped head) ≡ false
   unfolding isOver

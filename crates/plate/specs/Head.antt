@@ -3,7 +3,7 @@
 use Prim.Native.Nat.{ℕ, _+_, _-_, min}
 use mathlib.Core.Path.{_≡_}
 use mathlib.Core.Bool.{Bool, _||_}
-use mathlib.Core.List.{List, []}
+use mathlib.Core.List.{List}
 use lib.Dec.{leb, ltb}
 use lib.ListN.{length}
 use Rattle.lists.specs.Checks.{Check}
@@ -32,36 +32,36 @@ toldTable (Refused r) = refusal r
 
 -- ---- arithmetic
 
--- from its parts, for this file and its laws; elsewhere a head is one of those below
-abbrev pub headFor : ℕ → ℕ → ℕ → Head
-headFor N T columns = record { height = N; members = T; columns = columns }
-
--- of the table of these columns
-abbrev pub headOf : ℕ → ℕ → List Column → Head
-headOf N T columns = headFor N T (length columns)
-
 -- of a table that was cleared
 abbrev pub clearedHead : ℕ → ℕ → Head
-clearedHead N T = headOf N T []
+clearedHead N T = record { height = N; members = T; columns = 0 }
+
+-- the same with so many columns
+abbrev pub withColumns : Head → ℕ → Head
+withColumns head columns = record { height = head .height; members = head .members; columns = columns }
 
 -- the same columns under these settings
 abbrev pub settledHead : ℕ → ℕ → Head → Head
-settledHead N T head = headFor N T (head .columns)
+settledHead N T head = withColumns (clearedHead N T) (head .columns)
+
+-- of the table of these columns: the one way to a head for whoever knows the columns
+abbrev pub headOf : ℕ → ℕ → List Column → Head
+headOf N T columns = withColumns (clearedHead N T) (length columns)
 
 -- one column more
 abbrev pub more : Head → Head
-more head = headFor (head .height) (head .members) (head .columns + 1)
+more head = withColumns head (head .columns + 1)
 
 -- both tables' columns, and the difference
 abbrev pub both : Head → Head → Head
-both head other = headFor (head .height) (head .members) (head .columns + other .columns)
+both head other = withColumns head (head .columns + other .columns)
 
 abbrev pub less : Head → Head → Head
-less head other = headFor (head .height) (head .members) (head .columns - other .columns)
+less head other = withColumns head (head .columns - other .columns)
 
 -- no more columns than a table can have
 abbrev pub capped : Head → Head
-capped head = headFor (head .height) (head .members) (min (head .columns) mostColumns)
+capped head = withColumns head (min (head .columns) mostColumns)
 
 -- ---- limits
 

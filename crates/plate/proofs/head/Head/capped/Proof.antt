@@ -3,13 +3,13 @@ use mathlib.Core.Path.{_≡_, ap}
 use Prim.Native.Nat.{ℕ, min}
 use native.Mathlib.Omega.{arith}
 use Rattle.paper.specs.Limits.{mostColumns}
-use Rattle.plate.specs.Head.{headFor, capped}
+use Rattle.plate.specs.Head.{withColumns, capped}
 use Rattle.plate.specs.declared.head.Head.{Head}
 use Rattle.plate.proofs.head.Head.capped.Statement.{statement}
 use Rattle.plate.proofs.head.Head.capped.Tie as tie
 
-counted : (head : Head) (n : ℕ) → n ≡ min (head .columns) mostColumns → headFor (head .height) (head .members) n ≡ capped head
-counted head n e = ap (headFor (head .height) (head .members)) e
+counted : (head : Head) (n : ℕ) → n ≡ min (head .columns) mostColumns → withColumns head n ≡ capped head
+counted head n e = ap (withColumns head) e
 
 pub capped-spec : {M : Type 1} → statement M
 capped-spec = tie.close (tie.spec (λ c. counted (c .before .before .args .self) _ (omega arith)) (λ c. counted (c .before .before .args .self) _ (omega arith)))

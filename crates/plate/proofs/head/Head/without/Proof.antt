@@ -3,7 +3,7 @@ use mathlib.Core.Path.{_≡_, ap, _∙_}
 use Prim.Native.Nat.{ℕ, _-_}
 use native.Mathlib.Omega.{arith}
 use borrow.Author.Needs.{needs}
-use Rattle.plate.specs.Head.{headFor}
+use Rattle.plate.specs.Head.{withColumns}
 use Rattle.plate.proofs.head.Head.without.Statement.{statement}
 use Rattle.plate.proofs.head.Head.without.Tie as tie
 
@@ -11,7 +11,7 @@ returns : tie.Need-returns
 returns c =
     let s = c .before .before .before .before in
     let e : _≡_ {A = ℕ} 0 (s .args .self .columns - s .args .other .columns) = omega arith in
-    c .cleared .ensures ∙ ap (headFor (s .args .self .height) (s .args .self .members)) e
+    c .cleared .ensures ∙ ap (withColumns (s .args .self)) e
 
 pub without-spec : {M : Type 1} → statement M
 without-spec = tie.close (tie.spec (λ c κs. search needs) returns (λ c. search needs))
