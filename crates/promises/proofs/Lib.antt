@@ -14,3 +14,4 @@ pub mod Files
 pub mod Demands
 pub mod Filled
 pub mod Counts
+pub mod Planned

@@ -1,0 +1,54 @@
+-- DEMAND 2 over a table that is held: the call `plan` answers the greatest count, leaves document 01's entries, and its counts are read back as
+-- document 01 says; in the words of the table, of the columns where the table is theirs, and wherever `plan` was done. All that is asked of the
+-- plate is that its layers' errors agree with the table's cells. Assumes nothing.
+use Prim.Native.Nat.{ℕ, _<_}
+use mathlib.Core.Path.{_≡_, refl}
+use mathlib.Core.List.{List}
+use lib.IntN.{ℤ}
+use Rattle.paper.specs.Layer as paper
+use Rattle.paper.specs.Layer.{Column, ofColumns}
+use Rattle.paper.specs.Table.{Table}
+use Rattle.paper.specs.Groups.{part}
+use Rattle.plate.specs.Call.{answerOf, leftBy}
+use Rattle.plate.specs.Head.{Held}
+use Rattle.plate.specs.Refusal.{done}
+use Rattle.table.specs.Table.{Bounded}
+use Rattle.plan.specs.Plan.{Sheets, planning}
+use Rattle.meaning.specs.Working.{Agree}
+use Rattle.promises.specs.Plans.{plateOf, SettingsOf, Room, Accepted, Plans}
+use Rattle.promises.proofs.Accepted.{plan-accepted}
+use Rattle.promises.proofs.Counts.{counts-read}
+use Rattle.promises.proofs.Demands.{plan-done, demand-2, answers-agree, columns-agree}
+use Rattle.promises.proofs.Filled.{plan-fills, fills-agree}
+
+module _ (held : Held) (bound : ℕ) (small : bound < 4_294_967_296) (lent : Sheets) where
+  -- ---- settings, table and buffers that a plan takes
+
+  module _ (settings : SettingsOf held) (b : Bounded held) (room : Room (held .head .height) (held .head .members) lent) where
+    agreeing-plans : (other : ℤ → ℕ → ℕ) → Agree (plateOf held) other → Plans (part (plateOf held) other) held bound lent
+    agreeing-plans other agree = record {
+      answer = plan-done held settings b bound lent room;
+      fills = fills-agree (plateOf held) other agree (settings .some-thickness) bound (leftBy (planning held bound lent)) (plan-fills held settings b bound lent room small);
+      reads = counts-read (part (plateOf held) other) bound (leftBy (planning held bound lent))
+          (λ n low high out fits. answers-agree (plateOf held) other agree bound n _ out _ (demand-2 held settings b bound lent small room n low high out fits));
+    }
+
+    pub table-plans : Plans (plateOf held) held bound lent
+    table-plans = agreeing-plans (plateOf held .layerError) (λ z t u. refl)
+
+    pub columns-plan : (columns : List Column) → Table (ofColumns (held .head .height) (held .head .members) columns) (held .buffer)
+        → Plans (ofColumns (held .head .height) (held .head .members) columns) held bound lent
+    columns-plan columns t = agreeing-plans (paper.shares columns) (columns-agree (held .head .height) (held .head .members) columns (held .buffer) t)
+
+  -- ---- wherever a plan was done
+
+  module _ (bits : held .head .members < 4_294_967_296) (m : ℕ) (is : answerOf (planning held bound lent) ≡ done m) where
+    accepted : Accepted held lent m
+    accepted = plan-accepted held bound lent m bits is
+
+    pub table-planned : Plans (plateOf held) held bound lent
+    table-planned = table-plans (accepted .settings) (accepted .bounds) (accepted .room)
+
+    pub columns-planned : (columns : List Column) → Table (ofColumns (held .head .height) (held .head .members) columns) (held .buffer)
+        → Plans (ofColumns (held .head .height) (held .head .members) columns) held bound lent
+    columns-planned columns t = columns-plan (accepted .settings) (accepted .bounds) (accepted .room) columns t
