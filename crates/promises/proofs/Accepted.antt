@@ -2,7 +2,6 @@
 -- what document 01 says. Assumes nothing.
 use Prim.Native.Nat.{ℕ, _<_}
 use mathlib.Core.Path.{_≡_, sym}
-use native.Mathlib.Omega.{arith}
 use borrow.Author.Tests.{ltb-false}
 use lib.ListN.{length}
 use Rattle.lists.proofs.Checks.{first-none, first-later, first-earlier}

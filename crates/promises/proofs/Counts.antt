@@ -2,7 +2,7 @@
 -- 12, whatever the count and the output. Where a count is out of range or the output is short, an earlier refusal is given, and its number is not
 -- 12; else it is answered as demand 2 says. Assumes nothing.
 use Prim.Native.Nat.{ℕ, _+_, _≤_, _<_}
-use mathlib.Core.Path.{_≡_, refl, sym, ap, _∙_, subst}
+use mathlib.Core.Path.{_≡_, refl, sym, _∙_, subst}
 use mathlib.Core.Logic.{inl, inr, _↔_}
 use mathlib.Core.Bool.{true}
 use mathlib.Core.List.{List}
@@ -16,8 +16,7 @@ use Rattle.lists.specs.Checks.{first}
 use Rattle.lists.proofs.Checks.{first-none, first-later, or-false}
 use Rattle.paper.specs.Layer.{Plate}
 use Rattle.paper.specs.Sequence.{M, None}
-use Rattle.plate.specs.Call.{leftBy}
-use Rattle.plate.specs.Refusal.{Told, done, refused, Numbered}
+use Rattle.plate.specs.Refusal.{Told, refused, Numbered}
 use Rattle.plate.specs.Settings.{settingsChecks}
 use Rattle.plate.proofs.Decided.{decided-stopped}
 use Rattle.plan.specs.Plan.{Sheets}

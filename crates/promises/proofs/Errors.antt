@@ -1,6 +1,6 @@
 -- A layer's error is the fewest voxels that a picture can have wrong, by `paper`'s laws on pictures; what the call `picture` answers where it
 -- is done is document 01's picture and share. Assumes nothing.
-use mathlib.Core.Path.{_≡_, sym, subst}
+use mathlib.Core.Path.{_≡_, subst}
 use mathlib.Core.List.{List}
 use Prim.Native.Nat.{ℕ}
 use lib.IntN.{ℤ}

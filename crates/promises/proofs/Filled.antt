@@ -1,14 +1,14 @@
 -- What a plan leaves: the two entries of every height and count, and the list, are document 01's. The entries are what the rules of the table
 -- give at their flat index (crate `plan`), and those are the least errors and last thicknesses of the table's plate (crate `meaning`); the list
 -- has the error of the sequence found. On another plate whose errors agree with the table's cells they are the same. Assumes nothing.
-use Prim.Native.Nat.{ℕ, _+_, _-_, _*_, _≤_, _<_}
-use mathlib.Core.Path.{_≡_, refl, sym, ap, ap₂, _∙_, subst}
+use Prim.Native.Nat.{ℕ, _+_, _-_, _≤_, _<_}
+use mathlib.Core.Path.{_≡_, refl, sym, ap, _∙_, subst}
 use mathlib.Core.Logic.{inl, inr}
 use mathlib.Core.List.{List}
 use mathlib.Core.Option.{Option, none, some}
 use native.Mathlib.Omega.{arith}
 use lib.Arith.{digits-lt}
-use lib.IntN.{ℤ, pos, _+ℤ_, _-ℤ_, +ℤ-negℤ-cancel}
+use lib.IntN.{ℤ, pos, _-ℤ_, +ℤ-negℤ-cancel}
 use lib.ListN.{getD}
 use lib.Signed.{_<ℤ_}
 use Rattle.lists.proofs.Grid.{flat-at}

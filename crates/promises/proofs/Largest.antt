@@ -1,6 +1,6 @@
 -- 'The bound is 32 bits; its largest value excludes nothing.' A cell in bounds is at most the greatest limit that there is, and so is the error
 -- of a layer of the most columns; the largest bound is more. Assumes nothing.
-use Prim.Native.Nat.{ℕ, _*_, _/_, _≤_}
+use Prim.Native.Nat.{ℕ, _/_, _≤_}
 use mathlib.Core.Path.{_≡_}
 use mathlib.Core.Bool.{true}
 use mathlib.Core.List.{List}

@@ -15,3 +15,5 @@ pub mod Demands
 pub mod Filled
 pub mod Counts
 pub mod Planned
+pub mod Dealt
+pub mod Mission

@@ -1,6 +1,6 @@
 -- The numbers of each call's checks by computing them, and what a call answers by the first check that holds: its value where none does, and
 -- else a refusal by that check's number, which is one of the list's. Assumes nothing.
-use mathlib.Core.Path.{_≡_, refl, sym, ap, _∙_, subst}
+use mathlib.Core.Path.{_≡_, refl, sym, ap, subst}
 use mathlib.Core.Logic.{_⊎_, inl, inr}
 use mathlib.Core.Bool.{Bool, true, false, cond, _||_}
 use mathlib.Core.List.{List, [], _∷_}
@@ -23,7 +23,7 @@ use Rattle.plan.specs.Plan.{planRest, planning}
 use Rattle.readback.specs.Reading.{sizeChecks, entryChecks, reading}
 use Rattle.recount.specs.Recount.{sequenceChecks, recounting}
 use Rattle.record.specs.Faults.{tail, frameChecks}
-use Rattle.job.specs.Record.{bodyChecks, kindChecks, recordKind, recordChecks, readingAt, readRecord}
+use Rattle.job.specs.Record.{bodyChecks, kindChecks, recordKind, recordChecks, readingAt}
 use Rattle.job.specs.File.{Job}
 use Rattle.job.specs.declared.Kind.{Kind}
 use Rattle.job.specs.declared.Kind.the-variants as kind

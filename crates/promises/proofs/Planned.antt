@@ -2,7 +2,8 @@
 -- document 01 says; in the words of the table, of the columns where the table is theirs, and wherever `plan` was done. All that is asked of the
 -- plate is that its layers' errors agree with the table's cells. Assumes nothing.
 use Prim.Native.Nat.{ℕ, _<_}
-use mathlib.Core.Path.{_≡_, refl}
+use mathlib.Core.Path.{_≡_, refl, sym, ap, _∙_}
+use mathlib.Core.Logic.{_↔_}
 use mathlib.Core.List.{List}
 use lib.IntN.{ℤ}
 use Rattle.paper.specs.Layer as paper
@@ -15,7 +16,7 @@ use Rattle.plate.specs.Refusal.{done}
 use Rattle.table.specs.Table.{Bounded}
 use Rattle.plan.specs.Plan.{Sheets, planning}
 use Rattle.meaning.specs.Working.{Agree}
-use Rattle.promises.specs.Plans.{plateOf, SettingsOf, Room, Accepted, Plans}
+use Rattle.promises.specs.Plans.{plateOf, SettingsOf, Room, Accepted, Plans, PlansTable}
 use Rattle.promises.proofs.Accepted.{plan-accepted}
 use Rattle.promises.proofs.Counts.{counts-read}
 use Rattle.promises.proofs.Demands.{plan-done, demand-2, answers-agree, columns-agree}
@@ -42,13 +43,13 @@ module _ (held : Held) (bound : ℕ) (small : bound < 4_294_967_296) (lent : She
 
   -- ---- wherever a plan was done
 
-  module _ (bits : held .head .members < 4_294_967_296) (m : ℕ) (is : answerOf (planning held bound lent) ≡ done m) where
-    accepted : Accepted held lent m
-    accepted = plan-accepted held bound lent m bits is
+  module _ (bits : held .head .members < 4_294_967_296) where
+    -- it is done exactly where it takes what it is handed
+    plan-exactly : (m : ℕ) → (answerOf (planning held bound lent) ≡ done m) ↔ Accepted held lent m
+    plan-exactly m = (plan-accepted held bound lent m bits, λ a. plan-done held (a .settings) (a .bounds) bound lent (a .room) ∙ ap done (sym (a .counts)))
 
-    pub table-planned : Plans (plateOf held) held bound lent
-    table-planned = table-plans (accepted .settings) (accepted .bounds) (accepted .room)
-
-    pub columns-planned : (columns : List Column) → Table (ofColumns (held .head .height) (held .head .members) columns) (held .buffer)
-        → Plans (ofColumns (held .head .height) (held .head .members) columns) held bound lent
-    columns-planned columns t = columns-plan (accepted .settings) (accepted .bounds) (accepted .room) columns t
+    pub plans-table : PlansTable held bound lent
+    plans-table = record {
+      exactly = plan-exactly;
+      plans = λ m is. let a = plan-exactly m .0 is in table-plans (a .settings) (a .bounds) (a .room);
+    }

@@ -5,3 +5,7 @@ pub mod Refusals
 pub mod Orders
 pub mod Told
 pub mod Files
+pub mod Jobs
+pub mod Groups
+pub mod Ways
+pub mod Mission

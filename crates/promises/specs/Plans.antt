@@ -112,3 +112,9 @@ pub record Plans (p : Plate) (held : Held) (bound : ℕ) (lent : Sheets) : Type 
   pub answer : answerOf (planning held bound lent) ≡ done (M (p .N) (p .T))
   pub fills : Fills p bound (leftBy (planning held bound lent))
   pub reads : ReadsCounts p bound (leftBy (planning held bound lent))
+
+-- a table that is held, whoever filled it: a plan is done exactly where settings, table and buffers are document 01's, and wherever it was done
+-- it planned the table's plate
+pub record PlansTable (held : Held) (bound : ℕ) (lent : Sheets) : Type 0 where
+  pub exactly : (m : ℕ) → (answerOf (planning held bound lent) ≡ done m) ↔ Accepted held lent m
+  pub plans : (m : ℕ) → answerOf (planning held bound lent) ≡ done m → Plans (plateOf held) held bound lent
