@@ -13,7 +13,7 @@ use lib.IntN.{ℤ, pos}
 use lib.ListN.{length, getD, take, length-replicate}
 use Rattle.paper.specs.Layer as paper
 use Rattle.paper.specs.Layer.{Plate, ofColumns}
-use Rattle.paper.specs.Table.{rows, InBounds}
+use Rattle.paper.specs.Table.{rows}
 use Rattle.paper.specs.Sequence.{M, error}
 use Rattle.paper.specs.Sheets.{entries}
 use Rattle.paper.proofs.Counts.{counts-rows}
@@ -21,18 +21,19 @@ use Rattle.plate.specs.Refusal.{Told, done, refused}
 use Rattle.plate.specs.Settings.{Sound, settingsOf}
 use Rattle.plate.proofs.Sizes.{sound}
 use Rattle.plate.specs.Call.{leftBy}
-use Rattle.plate.specs.Head.{heldIn}
+use Rattle.plate.specs.Head.{Held, heldIn}
 use Rattle.job.specs.File.{Job}
 use Rattle.load.specs.Load.{jobOf, Fitting, loadOf, loading, loadTable}
 use Rattle.load.specs.declared.Load.{Load}
 use Rattle.load.proofs.Whole.{fitting}
+use Rattle.table.specs.Table.{Bounded}
 use Rattle.plan.specs.Plan.{Sheets, planning}
 use Rattle.meaning.specs.Working.{found}
 use Rattle.meaning.proofs.Choice.{length-count, found-exact, found-none}
-use Rattle.promises.specs.Plans.{Answers}
+use Rattle.promises.specs.Plans.{Room, Answers}
 use Rattle.promises.specs.Files.{FileRead}
 use Rattle.promises.proofs.Tables.{tabulated-bounds}
-use Rattle.promises.proofs.Demands.{Room, plan-done, demand-2, answers-columns, take-front}
+use Rattle.promises.proofs.Demands.{plan-done, demand-2, answers-columns, take-front}
 use Rattle.promises.proofs.Files.{file-tabulated}
 use Rattle.report.specs.Lines.{most, sequenceLine, countLine, countLines, headLine, jobText, plateText}
 use Rattle.report.specs.Work.{blankTable, blankSheets, blankSequence, readLine, sheetLine, sheetsText, plannedBy, plannedText, loadedBy, fileText}
@@ -93,8 +94,11 @@ module _ (s : List ℕ) (byte : (i : ℕ) → getD s i 0 < 256) (job : Job) (is 
   read : FileRead most s job blankTable
   read = file-tabulated job blankTable (omega (arith, fits .few-cells, length-replicate {A = ℕ} most 0)) most s byte is
 
-  bounds : InBounds N T (length (job .columns)) table
-  bounds = tabulated-bounds N T (job .columns) (heldIn (loadOf job .head) table) (read .few) (record { table = read .table; goes = refl }) .bounds
+  abbrev held : Held
+  held = heldIn (loadOf job .head) table
+
+  bounds : Bounded held
+  bounds = tabulated-bounds N T (job .columns) held (read .few) (record { table = read .table; goes = refl }) .bounds
 
   room : Room N T blankSheets
   room = record {
@@ -104,20 +108,20 @@ module _ (s : List ℕ) (byte : (i : ℕ) → getD s i 0 < 256) (job : Job) (is 
   }
 
   abbrev left : Sheets
-  left = leftBy (planning (heldIn (loadOf job .head) table) (job .asked .bound) blankSheets)
+  left = leftBy (planning held (job .asked .bound) blankSheets)
 
   lines : (n : ℕ) → 0 < n → n ≤ M N T → sheetLine N T (left .errors) (left .thicknesses) blankSequence n ≡ countLine plate n (found plate (job .asked .bound) n)
   unfolding sheetLine
   lines n low high =
       line-is plate (job .asked .bound) n low _ blankSequence _
       (answers-columns N T (job .columns) table (read .table) (job .asked .bound) n _ blankSequence _
-      (demand-2 N T (read .settings) (length (job .columns)) table bounds (job .asked .bound) blankSheets (fits .ordered .low-bound) room n low high blankSequence
+      (demand-2 held (read .settings) bounds (job .asked .bound) blankSheets (fits .ordered .low-bound) room n low high blankSequence
       (omega (arith, few-counts N T (read .settings) (fits .few-entries), length-replicate {A = ℤ} 64 (pos 0)))))
 
   planned : plannedText (loadOf job) table blankSheets ≡ plateText N T (job .asked .bound) (job .columns)
   unfolding plannedText sheetsText
   planned =
-      ap (λ (x : Told ℕ). plannedBy (loadOf job .head) x left) (plan-done N T (read .settings) (length (job .columns)) table bounds (job .asked .bound) blankSheets room)
+      ap (λ (x : Told ℕ). plannedBy (loadOf job .head) x left) (plan-done held (read .settings) bounds (job .asked .bound) blankSheets room)
       ∙ ap (λ (t : List ℕ). headLine N (length (job .columns)) (M N T) ++ t) (lines-same _ _ 0 (M N T) (λ n low high. lines n low (omega arith)))
 
   job-printed : fileText (jobOf most s) blankTable ≡ jobText (jobOf most s)
