@@ -124,7 +124,7 @@ module _ (asking : Asking) (s : List ℕ) where
             place = a .place;
             unasked = a .unasked;
             bits = rw (a .read-there) (quad-small s byte (bodyAt (a .place) + 2));
-            low-bound = rw (a .read-there) (quad-small s byte (bodyAt (a .place) + 6));
+            low-bound = rw (a .read-there) (omega (arith, quad-small s byte (bodyAt (a .place) + 6)));
             order = u .order;
             few = omega (arith, u .few, counts u);
           }))

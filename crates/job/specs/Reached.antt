@@ -6,7 +6,7 @@ use mathlib.Core.List.{List, [], _∷_, _++_}
 use mathlib.Core.Option.{none, some}
 use lib.ListN.{length}
 use Rattle.lists.specs.Checks.{first}
-use Rattle.paper.specs.Limits.{mostColumns}
+use Rattle.paper.specs.Limits.{mostColumns, sets, largestBound}
 use Rattle.paper.specs.Layer.{Column}
 use Rattle.plate.specs.Refusal.{Told, done, refused}
 use Rattle.plate.specs.Settings.{settingsChecks}
@@ -57,7 +57,7 @@ pub record Ordered (asking : Asking) (job : Job) : Type 0 where
   pub fine : first (settingsChecks (job .asked .height) (job .asked .members)) ≡ none
   pub place : ℕ
   pub unasked : first (asking place (job .asked)) ≡ none
-  pub bits : job .asked .members < 4_294_967_296
-  pub low-bound : job .asked .bound < 4_294_967_296
+  pub bits : job .asked .members < sets
+  pub low-bound : job .asked .bound ≤ largestBound
   pub order : ColumnsInOrder (job .asked .height) (job .columns)
   pub few : length (job .columns) ≤ mostColumns

@@ -11,7 +11,7 @@ use Rattle.paper.specs.Layer.{Plate, tmax}
 use Rattle.paper.specs.Sequence.{_!_, thickness, errorAt, errorUnder, error}
 use Rattle.paper.specs.Sheets.{Ending, ChosenAt, Entries}
 use Rattle.paper.specs.Groups.{part, LeastError}
-use Rattle.paper.proofs.Stacks.{stack-again}
+use Rattle.paper.proofs.Stacks.{stack-again, errors-again}
 use Rattle.meaning.specs.Working.{Agree}
 use Rattle.meaning.proofs.Stacks.{layers-usable}
 use Rattle.meaning.proofs.Usable.{same-admissible, same-error, agree-back}
@@ -29,12 +29,8 @@ module _ (p : Plate) (other : ℤ → ℕ → ℕ) (agree : Agree p other) (boun
     stack = stack-again p other bound bound zs m (a .stack) (λ k l. omega (arith, a .stack .layers k l .within, same-layer k l));
   }
 
-  same-errors : (k : ℕ) → k ≤ m → errorUnder p zs k ≡ errorUnder (part p other) zs k
-  same-errors zero l = refl
-  same-errors (suc k) l = ap₂ _+_ (same-errors k (omega arith)) (same-layer k l)
-
   same-under : errorUnder p zs m ≡ errorUnder (part p other) zs m
-  same-under = same-errors m (omega arith)
+  same-under = errors-again p other zs m same-layer
 
 -- and back, so the chosen ones and the entries are the same
 module _ (p : Plate) (other : ℤ → ℕ → ℕ) (agree : Agree p other) (bound m : ℕ) (z : ℤ) (low : z <ℤ pos (p .N + tmax (p .T))) where

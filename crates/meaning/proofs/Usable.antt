@@ -8,7 +8,7 @@ use lib.IntN.{ℤ}
 use Rattle.paper.specs.Layer.{Plate}
 use Rattle.paper.specs.Sequence.{_!_, count, thickness, Admissible, errorUnder, error, Chosen, None}
 use Rattle.paper.specs.Groups.{Usable, part}
-use Rattle.paper.proofs.Stacks.{admissible-again}
+use Rattle.paper.proofs.Stacks.{admissible-again, errors-again}
 use Rattle.meaning.specs.Working.{Agree}
 use Rattle.meaning.proofs.Stacks.{layers-usable}
 
@@ -29,11 +29,7 @@ module _ (p : Plate) (other : ℤ → ℕ → ℕ) (agree : Agree p other) where
   same-admissible bound zs a = smaller-admissible p other (λ z t u. omega (arith, agree z t u)) bound zs a
 
   pub same-error : (bound : ℕ) (zs : List ℤ) → Admissible p bound zs → error p zs ≡ error (part p other) zs
-  same-error bound zs a = go (count zs) (omega arith)
-    where
-      go : (k : ℕ) → k ≤ count zs → errorUnder p zs k ≡ errorUnder (part p other) zs k
-      go zero l = refl
-      go (suc k) l = ap₂ _+_ (go k (omega arith)) (agree (zs ! k) (thickness zs k) (sequence-usable p bound zs a k l))
+  same-error bound zs a = errors-again p other zs (count zs) (λ k l. agree (zs ! k) (thickness zs k) (sequence-usable p bound zs a k l))
 
   pub agree-back : Agree (part p other) (p .layerError)
   agree-back z t u = sym (agree z t u)

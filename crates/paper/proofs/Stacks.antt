@@ -1,10 +1,12 @@
 -- Layers over one another, taken under another bound or on another plate of the same height and thicknesses: only the layers' errors are asked
--- again, and what they are compared with. Assumes nothing.
-use Prim.Native.Nat.{ℕ, suc, _≤_, _<_}
+-- again, and what they are compared with; and errors that agree add up to the same. Assumes nothing.
+use Prim.Native.Nat.{ℕ, zero, suc, _+_, _≤_, _<_}
+use mathlib.Core.Path.{_≡_, refl, ap₂}
 use mathlib.Core.List.{List}
+use native.Mathlib.Omega.{arith}
 use lib.IntN.{ℤ, natAbs, _-ℤ_}
 use Rattle.paper.specs.Layer.{Plate}
-use Rattle.paper.specs.Sequence.{_!_, count, errorAt, IsLayer, Stack, Admissible}
+use Rattle.paper.specs.Sequence.{_!_, count, errorAt, errorUnder, IsLayer, Stack, Admissible}
 use Rattle.paper.specs.Groups.{part}
 
 module _ (p : Plate) (errors : ℤ → ℕ → ℕ) (bound other : ℕ) where
@@ -27,6 +29,12 @@ module _ (p : Plate) (errors : ℤ → ℕ → ℕ) (bound other : ℕ) where
       ends-from = a .ends-from;
       ends-below = a .ends-below;
     }
+
+-- layers whose errors are the same add up to the same
+pub errors-again : (p : Plate) (errors : ℤ → ℕ → ℕ) (zs : List ℤ) (m : ℕ) → ((k : ℕ) → k < m → errorAt p zs k ≡ errorAt (part p errors) zs k)
+    → errorUnder p zs m ≡ errorUnder (part p errors) zs m
+errors-again p errors zs zero same = refl
+errors-again p errors zs (suc m) same = ap₂ _+_ (errors-again p errors zs m (λ k l. same k (omega arith))) (same m (omega arith))
 
 -- the plate's own errors, within another bound
 pub admissible-within : (p : Plate) (bound other : ℕ) (zs : List ℤ) → Admissible p bound zs → ((k : ℕ) → k < count zs → errorAt p zs k ≤ other) → Admissible p other zs

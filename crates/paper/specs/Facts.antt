@@ -1,11 +1,12 @@
 -- Document 01, 'One plate in full': N = 4, T = {2, 3}, columns A = 1, 4 and B = 0, 3. The facts marked P1 to P13 as one list, over the
 -- document's own definitions. Assumes nothing.
-use Prim.Native.Nat.{ℕ, _-_, _^_, _<_}
+use Prim.Native.Nat.{ℕ, _<_}
 use mathlib.Core.Path.{_≡_}
 use mathlib.Core.Bool.{Bool, false}
 use mathlib.Core.List.{List, [], _∷_}
 use lib.IntN.{ℤ, pos, negℤ}
 use lib.Ieee.{Float}
+use Rattle.paper.specs.Limits.{largestBound}
 use Rattle.paper.specs.Layer.{Plate, Column, columnOf, ofColumns, share, filled, shares}
 use Rattle.paper.specs.Table.{cells, startAt, thicknessAt, cellOf}
 use Rattle.paper.specs.Sequence.{error, M, Chosen, None}
@@ -25,7 +26,7 @@ plate columns = ofColumns 4 6 columns
 
 -- no bound in effect
 abbrev pub free : ℕ
-free = 2 ^ 32 - 1
+free = largestBound
 
 abbrev pub minus : ℕ → ℤ
 minus n = negℤ (pos n)

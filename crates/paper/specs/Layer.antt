@@ -8,7 +8,7 @@ use lib.Dec.{leb, ltb, eqb}
 use lib.ListN.{length, getD}
 use lib.IntN.{ℤ, pos, _+ℤ_}
 use lib.Signed.{leZ, _<ℤ_}
-use Rattle.paper.specs.Limits.{leastHeight, greatestHeight, mostThickness, mostBoundaries}
+use Rattle.paper.specs.Limits.{leastHeight, greatestHeight, mostThickness, mostBoundaries, sets}
 
 -- T is 32 bits: bit k - 1 set means that thickness k is allowed (1 to 32)
 unfoldable pub allowed : ℕ → ℕ → Bool
@@ -36,7 +36,7 @@ tmax T = greatestTo T mostThickness
 pub record Settings (N T : ℕ) : Type 0 where
   pub least-height : leastHeight ≤ N
   pub greatest-height : N ≤ greatestHeight
-  pub bits : T < 2 ^ 32
+  pub bits : T < sets
   pub some-thickness : 1 ≤ tmax T
 
 -- a column: its boundaries

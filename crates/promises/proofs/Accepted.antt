@@ -5,6 +5,7 @@ use mathlib.Core.Path.{_≡_, sym}
 use borrow.Author.Tests.{ltb-false}
 use lib.ListN.{length}
 use Rattle.lists.proofs.Checks.{first-none, first-later, first-earlier}
+use Rattle.paper.specs.Limits.{sets}
 use Rattle.paper.specs.Table.{cells}
 use Rattle.paper.specs.Sequence.{M}
 use Rattle.paper.specs.Sheets.{entries}
@@ -21,7 +22,7 @@ use Rattle.promises.specs.Plans.{Accepted}
 use Rattle.promises.proofs.Fine.{settings-passed}
 
 -- the members are 32 bits wide
-pub plan-accepted : (held : Held) (bound : ℕ) (lent : Sheets) (m : ℕ) → held .head .members < 4_294_967_296
+pub plan-accepted : (held : Held) (bound : ℕ) (lent : Sheets) (m : ℕ) → held .head .members < sets
     → answerOf (planning held bound lent) ≡ done m → Accepted held lent m
 unfolding planning planRest short boundChecks outCell limitOf
 plan-accepted held bound lent m bits e =

@@ -1,12 +1,11 @@
--- A plate's columns in another order, or dealt into groups, are as many, and each is a column. Assumes nothing.
-use Prim.Native.Nat.{ℕ, suc}
-use mathlib.Core.Path.{_≡_, refl, ap, _∙_, subst}
+-- Of a plate's columns in another order, or dealt into groups, each is a column. Assumes nothing.
+use Prim.Native.Nat.{ℕ}
+use mathlib.Core.Path.{subst}
 use mathlib.Core.Logic.{∥∥₁-elim}
 use mathlib.Core.HLevel.{Unit-prop, Π-prop, ×-prop}
 use mathlib.Core.List.{List, [], _∷_, Perm, List·Permᴰ, List·Permᴰ·nil, List·Permᴰ·cons, List·Permᴰ·swap, List·Permᴰ·trans}
 use native.Mathlib.Bridge.{le-prop}
 use native.Mathlib.Nat.{ℕ-set}
-use lib.ListN.{length}
 use Rattle.paper.specs.Layer.{Column, IsColumn}
 use Rattle.promises.specs.Runs.{Columns}
 
@@ -30,12 +29,3 @@ columns-permᴰ N (List·Permᴰ·trans d e) c = columns-permᴰ N e (columns-pe
 
 pub columns-perm : (N : ℕ) (xs ys : List Column) → Perm xs ys → Columns N xs → Columns N ys
 columns-perm N xs ys p c = ∥∥₁-elim p (columns-prop N ys) (λ d. columns-permᴰ N d c)
-
-length-permᴰ : {xs ys : List Column} → List·Permᴰ xs ys → length xs ≡ length ys
-length-permᴰ List·Permᴰ·nil = refl
-length-permᴰ (List·Permᴰ·cons e d) = ap suc (length-permᴰ d)
-length-permᴰ (List·Permᴰ·swap e f) = refl
-length-permᴰ (List·Permᴰ·trans d e) = length-permᴰ d ∙ length-permᴰ e
-
-pub length-perm : (xs ys : List Column) → Perm xs ys → length xs ≡ length ys
-length-perm xs ys p = ∥∥₁-elim p (ℕ-set _ _) length-permᴰ

@@ -11,6 +11,7 @@ use lib.IntN.{ℤ}
 use lib.ListN.{length, take}
 use Rattle.lists.specs.Checks.{first}
 use Rattle.lists.proofs.Checks.{first-passed}
+use Rattle.paper.specs.Limits.{largestBound}
 use Rattle.paper.specs.Layer as paper
 use Rattle.paper.specs.Layer.{Column, ofColumns}
 use Rattle.paper.specs.Table.{cells, Table, cellAt, ofTable}
@@ -63,11 +64,11 @@ module _ (held : Held) (settings : SettingsOf held) (b : Bounded held) where
 
   -- DEMAND 2, for every table in bounds: after a plan, reading back a count from 1 to M answers the chosen sequence and its error, or 11
   -- exactly when no admissible sequence has that count, and never 12
-  pub demand-2 : (bound : ℕ) (lent : Sheets) → bound < 4_294_967_296 → Room N T lent → (n : ℕ) → 1 ≤ n → n ≤ M N T → (out : List ℤ) → n < length out
+  pub demand-2 : (bound : ℕ) (lent : Sheets) → bound ≤ largestBound → Room N T lent → (n : ℕ) → 1 ≤ n → n ≤ M N T → (out : List ℤ) → n < length out
       → ReadsBack (plateOf held) bound n (leftBy (planning held bound lent)) out
   demand-2 bound lent small r n low high out room =
       subst (λ (s : Sheets). ReadsBack (plateOf held) bound n s out) (sym (plan-leaves bound lent r))
-      (plan-reads N T bound settings small (held .buffer) lent (r .errors) (r .thicknesses) (r .leasts) n low high out room)
+      (plan-reads N T bound settings small (held .buffer) lent r n low high out room)
 
   -- recounting what was read back gives that error
   pub read-recounted : (bound n e : ℕ) (old out : List ℤ) → 1 ≤ n → Answers (plateOf held) bound n (done e) old out

@@ -12,7 +12,7 @@ use lib.IntN.{ℤ, pos, _-ℤ_, +ℤ-negℤ-cancel}
 use lib.ListN.{getD}
 use lib.Signed.{_<ℤ_}
 use Rattle.lists.proofs.Grid.{flat-at}
-use Rattle.lists.proofs.Rewrite.{rewritten-at}
+use Rattle.paper.specs.Limits.{largestBound}
 use Rattle.paper.specs.Layer as paper
 use Rattle.paper.specs.Layer.{tmax}
 use Rattle.paper.specs.Sequence.{M}
@@ -28,7 +28,6 @@ use Rattle.sequence.specs.Least.{least, last}
 use Rattle.sequence.specs.Sheets.{mark, errorEntry, thicknessEntry}
 use Rattle.table.specs.Table.{Bounded}
 use Rattle.plan.specs.Plan.{Sheets, planned, planning}
-use Rattle.plan.specs.Planning.{planRules, plannedErrors, plannedThicknesses}
 use Rattle.meaning.specs.Working.{Agree, rulesOf, found}
 use Rattle.meaning.proofs.Agreed.{same-entries, same-least-error}
 use Rattle.meaning.proofs.Choice.{found-exact, found-none}
@@ -36,7 +35,7 @@ use Rattle.meaning.proofs.Sheets as sheets
 use Rattle.meaning.proofs.Usable.{same-none}
 use Rattle.promises.specs.Plans.{plateOf, SettingsOf, Room, rowHeight, Listed, Fills}
 use Rattle.promises.proofs.Demands.{plan-leaves}
-use Rattle.promises.proofs.Plans.{rules-are, plan-lists, plan-lists-none}
+use Rattle.promises.proofs.Plans.{errors-are, lasts-are, plan-lists, plan-lists-none}
 
 -- the height of a row, over the datum
 row-height : (T row : ℕ) → 1 ≤ tmax T → rowHeight T row ≡ heightOf (atRow (tmax T) row)
@@ -55,7 +54,8 @@ row-low N T row thick l = rw (row-height T row thick, pos-height (N + tmax T)) (
 
 -- ---- over the table
 
-module _ (held : Held) (settings : SettingsOf held) (b : Bounded held) (bound : ℕ) (lent : Sheets) (room : Room (held .head .height) (held .head .members) lent) where
+module _ (held : Held) (settings : SettingsOf held) (b : Bounded held) (bound : ℕ) (small : bound ≤ largestBound) (lent : Sheets)
+    (room : Room (held .head .height) (held .head .members) lent) where
   abbrev N : ℕ
   N = held .head .height
 
@@ -65,30 +65,23 @@ module _ (held : Held) (settings : SettingsOf held) (b : Bounded held) (bound : 
   abbrev R : Rules
   R = rulesOf (plateOf held) bound
 
-  same : planRules N T bound (held .buffer) ≡ R
-  same = rules-are N T bound (held .buffer) (settings .some-thickness)
-
   place : (row m : ℕ) → row < heights N T → m ≤ M N T → entryIndex (M N T) row m < entries N T
   unfolding entries
   place row m l u = digits-lt l (omega arith)
 
   at-errors : (row m : ℕ) → row < heights N T → m ≤ M N T
       → getD (planned N T bound (held .buffer) lent .errors) (entryIndex (M N T) row m) 0 ≡ mark (least R m (atRow (tmax T) row))
-  unfolding plannedErrors errorEntry
+  unfolding errorEntry
   at-errors row m l u =
-      let i = place row m l u in
-      rewritten-at (λ i x. errorEntry N T (planRules N T bound (held .buffer)) i) (entries N T) (lent .errors) _ 0 i (omega (arith, room .errors))
-      ∙ flat-at (M N T + 1) (λ row m. mark (least (planRules N T bound (held .buffer)) m (atRow (tmax T) row))) row m (omega arith)
-      ∙ ap (λ (r : Rules). mark (least r m (atRow (tmax T) row))) same
+      errors-are N T bound settings small (held .buffer) lent room _ (place row m l u)
+      ∙ flat-at (M N T + 1) (λ row m. mark (least R m (atRow (tmax T) row))) row m (omega arith)
 
   at-thicknesses : (row m : ℕ) → row < heights N T → m ≤ M N T
       → getD (planned N T bound (held .buffer) lent .thicknesses) (entryIndex (M N T) row m) 0 ≡ last R m (atRow (tmax T) row)
-  unfolding plannedThicknesses thicknessEntry
+  unfolding thicknessEntry
   at-thicknesses row m l u =
-      let i = place row m l u in
-      rewritten-at (λ i x. thicknessEntry N T (planRules N T bound (held .buffer)) i) (entries N T) (lent .thicknesses) _ 0 i (omega (arith, room .thicknesses))
-      ∙ flat-at (M N T + 1) (λ row m. last (planRules N T bound (held .buffer)) m (atRow (tmax T) row)) row m (omega arith)
-      ∙ ap (λ (r : Rules). last r m (atRow (tmax T) row)) same
+      lasts-are N T bound settings small (held .buffer) lent room _ (place row m l u)
+      ∙ flat-at (M N T + 1) (λ row m. last R m (atRow (tmax T) row)) row m (omega arith)
 
   entries-are : (row m : ℕ) → row < heights N T → m ≤ M N T
       → Entries (plateOf held) bound m (rowHeight T row) (getD (planned N T bound (held .buffer) lent .errors) (entryIndex (M N T) row m) 0)
@@ -97,25 +90,25 @@ module _ (held : Held) (settings : SettingsOf held) (b : Bounded held) (bound : 
       rw (at-errors row m l u, at-thicknesses row m l u, row-height T row (settings .some-thickness))
       (sheets.entries (plateOf held) bound m (atRow (tmax T) row) (row-under N T row (settings .some-thickness) l))
 
-  list-is : bound < 4_294_967_296 → (n : ℕ) → 1 ≤ n → n ≤ M N T → Listed (plateOf held) bound n (getD (planned N T bound (held .buffer) lent .leasts) (n - 1) 0)
-  list-is small n low high = go (found (plateOf held) bound n) refl
+  list-is : (n : ℕ) → 1 ≤ n → n ≤ M N T → Listed (plateOf held) bound n (getD (planned N T bound (held .buffer) lent .leasts) (n - 1) 0)
+  list-is n low high = go (found (plateOf held) bound n) refl
     where
       go : (o : Option (List ℤ)) → found (plateOf held) bound n ≡ o → Listed (plateOf held) bound n (getD (planned N T bound (held .buffer) lent .leasts) (n - 1) 0)
       go none e =
           let f = found-none (plateOf held) bound n low .0 e in
-          inr (f, plan-lists-none N T bound settings small (held .buffer) lent (room .errors) (room .thicknesses) (room .leasts) n low high f)
+          inr (f, plan-lists-none N T bound settings small (held .buffer) lent room n low high f)
       go (some zs) e =
           let c = found-exact (plateOf held) bound n low zs .1 e in
           inl (record {
             one = zs;
             least = record { admissible = c .admissible; counts = c .counts; least = c .least };
-            its = sym (plan-lists N T bound settings small (held .buffer) lent (room .errors) (room .thicknesses) (room .leasts) n low high zs c);
+            its = sym (plan-lists N T bound settings small (held .buffer) lent room n low high zs c);
           })
 
   -- what the call leaves
-  pub plan-fills : bound < 4_294_967_296 → Fills (plateOf held) bound (leftBy (planning held bound lent))
-  plan-fills small =
-      subst (Fills (plateOf held) bound) (sym (plan-leaves held settings b bound lent room)) (record { entries = entries-are; list = list-is small })
+  pub plan-fills : Fills (plateOf held) bound (leftBy (planning held bound lent))
+  plan-fills =
+      subst (Fills (plateOf held) bound) (sym (plan-leaves held settings b bound lent room)) (record { entries = entries-are; list = list-is })
 
 -- ---- on another plate whose errors agree
 

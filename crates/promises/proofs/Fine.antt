@@ -13,7 +13,7 @@ use Rattle.lists.specs.Search.{lowest}
 use Rattle.lists.proofs.Checks.{first-none, or-false}
 use Rattle.lists.proofs.Search.{lowest-none, lowest-before}
 use Rattle.paper.specs.Layer as paper
-use Rattle.paper.specs.Limits.{mostBoundaries, leastHeight, greatestHeight}
+use Rattle.paper.specs.Limits.{mostBoundaries, leastHeight, greatestHeight, sets}
 use Rattle.paper.specs.Layer.{Column, IsColumn, columnOf}
 use Rattle.paper.proofs.Thicknesses.{empty-is-zero}
 use Rattle.plate.specs.Settings.{settingsChecks}
@@ -49,7 +49,7 @@ column-fine N column c =
 
 -- ---- and the other way: what passes is in order
 
-pub settings-passed : (N T : ℕ) → T < 4_294_967_296 → first (settingsChecks N T) ≡ none → paper.Settings N T
+pub settings-passed : (N T : ℕ) → T < sets → first (settingsChecks N T) ≡ none → paper.Settings N T
 unfolding settingsChecks
 settings-passed N T bits e =
     let q = first-none (settingsChecks N T) .0 e in

@@ -8,7 +8,7 @@ use native.Mathlib.Nat.{mul-le-mul}
 use native.Mathlib.Omega.{arith}
 use lib.IntN.{ℤ}
 use lib.ListN.{length}
-use Rattle.paper.specs.Limits.{mostColumns, mostThickness}
+use Rattle.paper.specs.Limits.{mostColumns, mostThickness, largestBound}
 use Rattle.paper.specs.Layer.{Column, allowed, shares, ofColumns}
 use Rattle.paper.specs.Table.{thicknessAt, cellAt}
 use Rattle.paper.specs.Sequence.{_!_, thickness}
@@ -24,7 +24,7 @@ use Rattle.table.proofs.Limits.{limit-le}
 use Rattle.table.proofs.Passed.{thickness-le}
 use Rattle.meaning.proofs.Table.{usable-cell, index}
 use Rattle.meaning.proofs.Usable.{sequence-usable}
-use Rattle.promises.specs.Plans.{largestBound, ExcludesNothing, plateOf}
+use Rattle.promises.specs.Plans.{ExcludesNothing, plateOf}
 
 -- the cell of a layer that a sequence can have
 cell-small : (held : Held) → Bounded held → (z : ℤ) (t : ℕ) → Usable (held .head .height) (held .head .members) z t

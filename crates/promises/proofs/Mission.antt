@@ -5,6 +5,7 @@ use mathlib.Core.Path.{_≡_}
 use mathlib.Core.List.{List, Perm, Perm·symm}
 use native.Mathlib.Omega.{arith}
 use lib.ListN.{length, getD}
+use Rattle.lists.proofs.Perm.{length-perm}
 use Rattle.paper.specs.Layer as paper
 use Rattle.paper.specs.Layer.{Column, ofColumns}
 use Rattle.paper.specs.Limits.{mostColumns}
@@ -16,7 +17,7 @@ use Rattle.promises.specs.Jobs.{JobDecided}
 use Rattle.promises.specs.Plans.{Room, Plans}
 use Rattle.promises.specs.Runs.{Joins, Columns, Tabulated, Tabulates, countOf, TableOf, TablesOf}
 use Rattle.promises.specs.Ways.{WithinLimits, Way, added, dealt, runOf, PlansPlate, PlannedFrom}
-use Rattle.promises.proofs.Dealt.{columns-perm, length-perm}
+use Rattle.promises.proofs.Dealt.{columns-perm}
 use Rattle.promises.proofs.Errors.{error-counts}
 use Rattle.promises.proofs.Files.{first-decides, end-decides, fault-place, file-tabulated}
 use Rattle.promises.proofs.Groups.{columns-add-up, joins-sum, tables-add-up}
@@ -93,7 +94,7 @@ mission = record {
   errors = error-counts;
   given = planned-from;
   given-held = held-plans;
-  given-table = λ held bound lent bits small. plans-table held bound (omega arith) lent bits;
+  given-table = λ held bound lent bits small. plans-table held bound small lent bits;
   groups = groups-join;
   tables = tables-join;
 }

@@ -19,6 +19,7 @@ use Rattle.lists.specs.Rewrite.{rewritten}
 use Rattle.lists.proofs.Best.{best-in, best-same}
 use Rattle.lists.proofs.Checks.{first-passed}
 use Rattle.lists.proofs.Rewrite.{rewritten-at, length-rewritten}
+use Rattle.paper.specs.Limits.{largestBound}
 use Rattle.paper.specs.Layer as paper
 use Rattle.paper.specs.Layer.{tmax}
 use Rattle.paper.specs.Table.{cellAt, ofTable}
@@ -48,7 +49,7 @@ use Rattle.plan.specs.Planning.{planRules, plannedErrors, plannedThicknesses, p
 use Rattle.readback.specs.Reading.{sizeChecks, roomChecks, entryChecks, reading}
 use Rattle.meaning.specs.Working as meaning
 use Rattle.meaning.proofs.Choice.{found-exact, found-none, chosen-error, listed, listed-none}
-use Rattle.promises.specs.Plans.{Answers, ReadsBack}
+use Rattle.promises.specs.Plans.{Room, Answers, ReadsBack}
 use Rattle.promises.proofs.Fine.{settings-fine}
 
 -- ---- the rules of a table are those of its plate
@@ -62,7 +63,7 @@ rules-are N T bound table l = ap (rules N T bound) (fun-ext (λ h. fun-ext (λ t
 
 -- ---- over the sheets of a plan
 
-module _ (p : paper.Plate) (bound : ℕ) (settings : paper.Settings (p .N) (p .T)) (small : bound < 4_294_967_296) where
+module _ (p : paper.Plate) (bound : ℕ) (settings : paper.Settings (p .N) (p .T)) (small : bound ≤ largestBound) where
   abbrev N : ℕ
   N = p .N
 
@@ -89,7 +90,7 @@ module _ (p : paper.Plate) (bound : ℕ) (settings : paper.Settings (p .N) (p .T
       go none e = tt
       go (some x) e =
           let b = least-bound R bound layer-bound n h x e in
-          let c = mul-le-mul (few n l) (let w : bound ≤ 4_294_967_295 = omega arith in w) in
+          let c = mul-le-mul (few n l) small in
           omega arith
 
   module _ (errors thicknesses : List ℕ)
@@ -201,29 +202,28 @@ module _ (p : paper.Plate) (bound : ℕ) (settings : paper.Settings (p .N) (p .T
 planned-at : (f : ℕ → ℕ) (n : ℕ) (old : List ℕ) → n ≤ length old → (i : ℕ) → i < n → getD (rewritten (λ i x. f i) n old) i 0 ≡ f i
 planned-at f n old room i l = rewritten-at (λ i x. f i) n old i 0 l (omega arith)
 
-module _ (N T bound : ℕ) (settings : paper.Settings N T) (small : bound < 4_294_967_296) (table : List ℕ) (lent : Sheets)
-    (whole-errors : entries N T ≤ length (lent .errors)) (whole-lasts : entries N T ≤ length (lent .thicknesses)) (whole-list : M N T ≤ length (lent .leasts)) where
+module _ (N T bound : ℕ) (settings : paper.Settings N T) (small : bound ≤ largestBound) (table : List ℕ) (lent : Sheets) (lent-room : Room N T lent) where
   abbrev plate : paper.Plate
   plate = ofTable N T table
 
   same : planRules N T bound table ≡ meaning.rulesOf plate bound
   same = rules-are N T bound table (settings .some-thickness)
 
-  errors-are : (i : ℕ) → i < entries N T → getD (planned N T bound table lent .errors) i 0 ≡ errorEntry N T (meaning.rulesOf plate bound) i
+  pub errors-are : (i : ℕ) → i < entries N T → getD (planned N T bound table lent .errors) i 0 ≡ errorEntry N T (meaning.rulesOf plate bound) i
   unfolding plannedErrors
-  errors-are i l = planned-at (errorEntry N T (planRules N T bound table)) (entries N T) (lent .errors) whole-errors i l ∙ ap (λ (r : working.Rules). errorEntry N T r i) same
+  errors-are i l = planned-at (errorEntry N T (planRules N T bound table)) (entries N T) (lent .errors) (lent-room .errors) i l ∙ ap (λ (r : working.Rules). errorEntry N T r i) same
 
-  lasts-are : (i : ℕ) → i < entries N T → getD (planned N T bound table lent .thicknesses) i 0 ≡ thicknessEntry N T (meaning.rulesOf plate bound) i
+  pub lasts-are : (i : ℕ) → i < entries N T → getD (planned N T bound table lent .thicknesses) i 0 ≡ thicknessEntry N T (meaning.rulesOf plate bound) i
   unfolding plannedThicknesses
-  lasts-are i l = planned-at (thicknessEntry N T (planRules N T bound table)) (entries N T) (lent .thicknesses) whole-lasts i l ∙ ap (λ (r : working.Rules). thicknessEntry N T r i) same
+  lasts-are i l = planned-at (thicknessEntry N T (planRules N T bound table)) (entries N T) (lent .thicknesses) (lent-room .thicknesses) i l ∙ ap (λ (r : working.Rules). thicknessEntry N T r i) same
 
   errors-whole : entries N T ≤ length (planned N T bound table lent .errors)
   unfolding plannedErrors
-  errors-whole = omega (arith, length-rewritten (λ i x. errorEntry N T (planRules N T bound table) i) (entries N T) (lent .errors))
+  errors-whole = omega (arith, length-rewritten (λ i x. errorEntry N T (planRules N T bound table) i) (entries N T) (lent .errors), lent-room .errors)
 
   lasts-whole : entries N T ≤ length (planned N T bound table lent .thicknesses)
   unfolding plannedThicknesses
-  lasts-whole = omega (arith, length-rewritten (λ i x. thicknessEntry N T (planRules N T bound table) i) (entries N T) (lent .thicknesses))
+  lasts-whole = omega (arith, length-rewritten (λ i x. thicknessEntry N T (planRules N T bound table) i) (entries N T) (lent .thicknesses), lent-room .thicknesses)
 
   module _ (n : ℕ) (some-layer : 1 ≤ n) (within : n ≤ M N T) where
     -- DEMAND 2: for every count from 1 to M, reading back over the sheets that the plan left
@@ -237,7 +237,7 @@ module _ (N T bound : ℕ) (settings : paper.Settings N T) (small : bound < 4_29
     unfolding plannedList
     list-is =
         let e : n - 1 + 1 ≡ n = omega arith in
-        planned-at (λ i. mark (working-least.leastOf (planRules N T bound table) (i + 1))) (M N T) (lent .leasts) whole-list (n - 1) (omega arith)
+        planned-at (λ i. mark (working-least.leastOf (planRules N T bound table) (i + 1))) (M N T) (lent .leasts) (lent-room .leasts) (n - 1) (omega arith)
         ∙ ap₂ (λ (r : working.Rules) (k : ℕ). mark (working-least.leastOf r k)) same e
 
     pub plan-lists : (zs : List ℤ) → Chosen plate bound n zs → getD (planned N T bound table lent .leasts) (n - 1) 0 ≡ error plate zs

@@ -4,14 +4,14 @@ use mathlib.Core.List.{List}
 use lib.ListN.{getD}
 use Rattle.paper.specs.Layer as paper
 use Rattle.paper.specs.Layer.{Column}
-use Rattle.paper.specs.Limits.{mostColumns}
+use Rattle.paper.specs.Limits.{mostColumns, sets, largestBound}
 use Rattle.plate.specs.Head.{Held}
 use Rattle.plan.specs.Plan.{Sheets}
 use Rattle.promises.specs.Errors.{ErrorCounts}
 use Rattle.promises.specs.Groups.{GroupsJoin, TablesJoin}
 use Rattle.promises.specs.Jobs.{JobDecided}
 use Rattle.promises.specs.Orders.{Orders}
-use Rattle.promises.specs.Plans.{largestBound, PlansTable}
+use Rattle.promises.specs.Plans.{PlansTable}
 use Rattle.promises.specs.Refusals.{Refusals}
 use Rattle.promises.specs.Runs.{Joins, Tabulated, countOf, TablesOf}
 use Rattle.promises.specs.Told.{Only, Unwritten, Unmoved}
@@ -40,7 +40,7 @@ pub record Mission : Type 0 where
   -- the same of the plate's table however it came to be held, taken off another or read from a file
   pub given-held : (N T : ℕ) (plate : List Column) → WithinLimits N T plate → (held : Held) → Tabulated N T plate held → PlansPlate N T plate held
   -- and of every table, whoever filled it; a thickness set and a bound are 32 bits
-  pub given-table : (held : Held) (bound : ℕ) (lent : Sheets) → held .head .members < 4_294_967_296 → bound ≤ largestBound → PlansTable held bound lent
+  pub given-table : (held : Held) (bound : ℕ) (lent : Sheets) → held .head .members < sets → bound ≤ largestBound → PlansTable held bound lent
   -- ---- DEMAND 3
 
   -- 'Deal the columns of a plate into one or more groups, each column to one group, the total within the limit, height and thicknesses the same

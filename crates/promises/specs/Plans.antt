@@ -1,11 +1,12 @@
 -- Demand 2 as statements: what a plan that is done was handed, what it fills, and what reading back over the sheets that it left answers and
 -- leaves. Assumes nothing.
-use Prim.Native.Nat.{ℕ, _+_, _-_, _^_, _≤_, _<_}
+use Prim.Native.Nat.{ℕ, _+_, _-_, _≤_, _<_}
 use mathlib.Core.Path.{_≡_}
 use mathlib.Core.Logic.{_⊎_, _↔_}
 use mathlib.Core.List.{List, _++_}
 use lib.IntN.{ℤ, pos, _-ℤ_}
 use lib.ListN.{length, getD, drop}
+use Rattle.paper.specs.Limits.{largestBound}
 use Rattle.paper.specs.Layer as paper
 use Rattle.paper.specs.Layer.{Plate, tmax}
 use Rattle.paper.specs.Table.{ofTable}
@@ -20,10 +21,6 @@ use Rattle.plan.specs.Plan.{Sheets, planning}
 use Rattle.readback.specs.Reading.{reading}
 
 -- ---- the bound
-
--- 'The bound is 32 bits'
-abbrev pub largestBound : ℕ
-largestBound = 2 ^ 32 - 1
 
 -- 'its largest value excludes nothing': whatever is admissible under some bound, however large, is so under this one
 abbrev pub ExcludesNothing : Plate → Type 0

@@ -6,12 +6,12 @@ use mathlib.Core.List.{List, Perm}
 use lib.ListN.{length}
 use Rattle.paper.specs.Layer as paper
 use Rattle.paper.specs.Layer.{Column, ofColumns}
-use Rattle.paper.specs.Limits.{mostColumns}
+use Rattle.paper.specs.Limits.{mostColumns, largestBound}
 use Rattle.paper.specs.Table.{cells}
 use Rattle.plate.specs.Head.{Held}
 use Rattle.plate.specs.Refusal.{Told, done}
 use Rattle.plan.specs.Plan.{Sheets}
-use Rattle.promises.specs.Plans.{largestBound, Room, Plans}
+use Rattle.promises.specs.Plans.{Room, Plans}
 use Rattle.promises.specs.Runs.{tabulate, Group, Joins, columnsOf, joinAll, LentEnough, Columns, Tabulated}
 
 -- a plate within document 01's limits: its settings, each of its columns, and how many they are
