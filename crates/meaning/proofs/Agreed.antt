@@ -1,8 +1,8 @@
 -- Two plates of the same settings whose errors agree on the layers that a sequence can have: they have the same entries of the sheets, and the
 -- same least errors. The heights of a sheet end below N + tmax, so layers that end there are ones that a sequence can have; on the two plates
 -- they are the same, with the same errors, and so are the chosen ones. Assumes nothing.
-use Prim.Native.Nat.{ℕ, zero, suc, _+_, _≤_, _<_}
-use mathlib.Core.Path.{_≡_, refl, sym, ap₂, _∙_}
+use Prim.Native.Nat.{ℕ, _+_, _<_}
+use mathlib.Core.Path.{_≡_, sym, _∙_}
 use mathlib.Core.List.{List}
 use native.Mathlib.Omega.{arith}
 use lib.IntN.{ℤ, pos}

@@ -12,7 +12,7 @@ use lib.Dec.{leb}
 use lib.ListN.{length}
 use lib.Seq.{ext-getD}
 use lib.IntN.{ℤ, pos, natAbs, _-ℤ_}
-use Rattle.paper.specs.Layer.{Plate, allowed, tmin}
+use Rattle.paper.specs.Layer.{Plate, tmin}
 use Rattle.paper.specs.Sequence.{_!_, count, thickness, Stack, Admissible, errorUnder, error, M, Chosen, None}
 use Rattle.paper.specs.Sheets.{missing, Ending}
 use Rattle.paper.proofs.Thicknesses.{and-true, tmin-least}

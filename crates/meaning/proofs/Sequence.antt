@@ -9,10 +9,10 @@ use mathlib.Core.List.{List, [], _∷_}
 use native.Mathlib.Omega.{arith}
 use lib.Dec.{leb}
 use lib.ListN.{length, getD}
-use lib.IntN.{ℤ, pos, negℤ, natAbs, _-ℤ_}
+use lib.IntN.{ℤ, pos, negℤ}
 use lib.Signed.{_≤ℤ_, _<ℤ_}
 use borrow.Author.Tests.{leb-true, le-leb}
-use Rattle.paper.specs.Layer.{Plate, allowed, tmax}
+use Rattle.paper.specs.Layer.{Plate, tmax}
 use Rattle.paper.specs.Sequence.{_!_, thickness, IsLayer, Thinner, Before}
 use Rattle.paper.specs.Groups.{Usable}
 use Rattle.paper.proofs.Thicknesses.{and-true, allowed-from, tmax-le}

@@ -1,12 +1,12 @@
 -- A plan looks only at layers that a sequence can have. Two plates of the same settings whose errors agree on those layers have the same
 -- admissible sequences with the same errors, and so the same choice. Assumes nothing.
-use Prim.Native.Nat.{ℕ, zero, suc, _+_, _≤_, _<_}
-use mathlib.Core.Path.{_≡_, refl, sym, ap₂, _∙_}
+use Prim.Native.Nat.{ℕ, _≤_, _<_}
+use mathlib.Core.Path.{_≡_, sym, _∙_}
 use mathlib.Core.List.{List}
 use native.Mathlib.Omega.{arith}
 use lib.IntN.{ℤ}
 use Rattle.paper.specs.Layer.{Plate}
-use Rattle.paper.specs.Sequence.{_!_, count, thickness, Admissible, errorUnder, error, Chosen, None}
+use Rattle.paper.specs.Sequence.{_!_, count, thickness, Admissible, error, Chosen, None}
 use Rattle.paper.specs.Groups.{Usable, part}
 use Rattle.paper.proofs.Stacks.{admissible-again, errors-again}
 use Rattle.meaning.specs.Working.{Agree}

@@ -2,12 +2,12 @@
 -- its columns as inequalities, each one comparison, read either way; and the settings that it was made for. Assumes nothing.
 use mathlib.Core.Path.{_≡_, ap, subst}
 use mathlib.Core.Option.{none}
-use mathlib.Core.Bool.{true, false}
+use mathlib.Core.Bool.{false}
 use mathlib.Core.List.{List, [], _∷_, _++_, Perm}
 use Prim.Native.Nat.{ℕ, _+_, _-_, _≤_, _<_, min}
 use native.Mathlib.Omega.{arith}
-use borrow.Author.Tests.{ltb-true, ltb-false, leb-true, leb-false, lt-ltb, le-ltb, le-leb, lt-leb}
-use lib.ListN.{length, length-append}
+use borrow.Author.Tests.{ltb-false, leb-false, le-ltb, lt-leb}
+use lib.ListN.{length-append}
 use Rattle.lists.specs.Checks.{first}
 use Rattle.lists.proofs.Perm.{length-perm}
 use Rattle.paper.specs.Limits.{mostColumns}

@@ -1,7 +1,7 @@
 -- Recounting an admissible sequence over a table in bounds gives its error: a layer is out exactly where planning does not permit it, and every
 -- layer of such a sequence is permitted, so no check of the call holds. And only an admissible sequence has an error: where no check holds
 -- each boundary lies over the one before, so that all of them lie over the datum, and permitted layers are document 01's. Assumes nothing.
-use mathlib.Core.Path.{_≡_, refl, sym, ap, ap₂, _∙_, subst}
+use mathlib.Core.Path.{_≡_, refl, sym, ap, _∙_, subst}
 use mathlib.Core.Bool.{Bool, true, false, not, _&&_, _||_}
 use mathlib.Core.List.{List, [], _∷_}
 use mathlib.Core.Option.{none}
@@ -18,12 +18,12 @@ use Rattle.lists.specs.Search.{lowest}
 use Rattle.lists.proofs.Checks.{first-passed, first-none, first-later, or-false}
 use Rattle.lists.proofs.Search.{lowest-none, lowest-before}
 use Rattle.paper.specs.Layer as paper
-use Rattle.paper.specs.Layer.{allowed, tmax}
+use Rattle.paper.specs.Layer.{tmax}
 use Rattle.paper.specs.Table.{ofTable}
-use Rattle.paper.specs.Sequence.{_!_, count, Stack, Admissible, error}
+use Rattle.paper.specs.Sequence.{_!_, count, Admissible, error}
 use Rattle.paper.proofs.Thicknesses.{and-true, allowed-from, tmax-le}
 use Rattle.plate.specs.Call.{answerOf}
-use Rattle.plate.specs.Datum.{datum, heightOf}
+use Rattle.plate.specs.Datum.{datum}
 use Rattle.plate.specs.Head.{Held}
 use Rattle.plate.specs.Refusal.{done}
 use Rattle.plate.proofs.Calls.{passes, finished}

@@ -16,9 +16,9 @@ use Rattle.lists.proofs.Rewrite.{rewritten-at, length-rewritten}
 use Rattle.paper.specs.Limits.{mostColumns}
 use Rattle.paper.specs.Layer as paper
 use Rattle.paper.specs.Layer.{allowed, Column, IsColumn, share, shares, ofColumns}
-use Rattle.paper.specs.Table.{cells, startAt, thicknessAt, cellOf, limit, Table, InBounds}
+use Rattle.paper.specs.Table.{cells, startAt, thicknessAt, cellOf, limit, Table}
 use Rattle.plate.specs.Refusal.{Told, done}
-use Rattle.plate.specs.Call.{Call, answerOf, leftBy}
+use Rattle.plate.specs.Call.{Call}
 use Rattle.plate.specs.Head.{Held, heldIn, headOf, clearedHead, more, limitOf, headChecks}
 use Rattle.plate.specs.Head as head
 use Rattle.plate.specs.Settings.{settingsChecks}
