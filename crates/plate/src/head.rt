@@ -2,7 +2,7 @@
 // arithmetic and its limits are here and nowhere else.
 ghost use mathlib.Core.Path.{_≡_};
 ghost use mathlib.Core.Bool.{cond};
-ghost use Rattle.plate.specs.Head.{clearedHead, more, both, less, capped, isOver, isFull, isLess};
+ghost use Rattle.plate.specs.Head.{clearedHead, withColumns, more, both, less, capped, isOver, isFull, isLess};
 use crate::refusal::Refusal;
 
 #[repr(C)]
@@ -29,6 +29,17 @@ impl Head {
             height,
             members,
             columns: 0,
+        }
+    }
+
+    // The same with so many columns.
+    fn with_columns(self, columns: u32) -> Head
+        ensures { λ r. ⌜ r ≡ withColumns self columns ⌝ }
+    {
+        Head {
+            height: self.height,
+            members: self.members,
+            columns,
         }
     }
 
@@ -67,11 +78,7 @@ impl Head {
         if self.is_full() {
             return self;
         }
-        Head {
-            height: self.height,
-            members: self.members,
-            columns: self.columns + 1,
-        }
+        self.with_columns(self.columns + 1)
     }
 
     // The columns of two tables; those of the first alone where both are too many.
@@ -81,11 +88,7 @@ impl Head {
         if self.is_over_with(other) {
             return self;
         }
-        Head {
-            height: self.height,
-            members: self.members,
-            columns: self.columns + other.columns,
-        }
+        self.with_columns(self.columns + other.columns)
     }
 
     // The columns that another table leaves, and none where it has more.
@@ -93,13 +96,9 @@ impl Head {
         ensures { λ r. ⌜ r ≡ less self other ⌝ }
     {
         if self.columns < other.columns {
-            return Head::cleared(self.height, self.members);
+            return self.with_columns(0);
         }
-        Head {
-            height: self.height,
-            members: self.members,
-            columns: self.columns - other.columns,
-        }
+        self.with_columns(self.columns - other.columns)
     }
 
     // No more columns than a table can have.
@@ -107,11 +106,7 @@ impl Head {
         ensures { λ r. ⌜ r ≡ capped self ⌝ }
     {
         if Head::MOST_COLUMNS < self.columns {
-            return Head {
-                height: self.height,
-                members: self.members,
-                columns: Head::MOST_COLUMNS,
-            };
+            return self.with_columns(Head::MOST_COLUMNS);
         }
         self
     }

@@ -13,4 +13,5 @@ joined-with-spec =
     (λ c κs. search needs)
     (λ c. rw (sym (c .before .is-over-with .ensures) ∙ c .if1 .taken) refl)
     (λ c. let a = c .before .before .before .before .args in omega (arith, not-over-both (a .self) (a .other) (sym (c .before .before .before .is-over-with .ensures) ∙ c .before .before .if1 .left)))
-    (λ c. rw (sym (c .before .before .before .is-over-with .ensures) ∙ c .before .before .if1 .left) refl))
+    (λ c κs. search needs)
+    (λ c. let i = c .before .before .before in rw (sym (i .before .is-over-with .ensures) ∙ i .if1 .left) (c .with-columns .ensures)))

@@ -13,4 +13,5 @@ with-column-spec =
     (λ c κs. search needs)
     (λ c. rw (sym (c .before .is-full .ensures) ∙ c .if1 .taken) refl)
     (λ c. omega (arith, not-full _ (sym (c .before .before .is-full .ensures) ∙ c .before .if1 .left)))
-    (λ c. rw (sym (c .before .before .is-full .ensures) ∙ c .before .if1 .left) refl))
+    (λ c κs. search needs)
+    (λ c. let i = c .before .before in rw (sym (i .before .is-full .ensures) ∙ i .if1 .left) (c .with-columns .ensures)))

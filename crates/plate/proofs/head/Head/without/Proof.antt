@@ -7,11 +7,17 @@ use Rattle.plate.specs.Head.{withColumns}
 use Rattle.plate.proofs.head.Head.without.Statement.{statement}
 use Rattle.plate.proofs.head.Head.without.Tie as tie
 
-returns : tie.Need-returns
-returns c =
-    let s = c .before .before .before .before in
-    let e : _≡_ {A = ℕ} 0 (s .args .self .columns - s .args .other .columns) = omega arith in
-    c .cleared .ensures ∙ ap (withColumns (s .args .self)) e
+none-left : tie.Need-returns
+none-left c =
+    let a = c .before .before .before .before .args in
+    let e : _≡_ {A = ℕ} 0 (a .self .columns - a .other .columns) = omega arith in
+    c .with-columns .ensures ∙ ap (withColumns (a .self)) e
 
 pub without-spec : {M : Type 1} → statement M
-without-spec = tie.close (tie.spec (λ c κs. search needs) returns (λ c. search needs))
+without-spec =
+    tie.close
+    (tie.spec
+    (λ c κs. search needs)
+    none-left
+    (λ c κs. search needs)
+    (λ c. search needs))
