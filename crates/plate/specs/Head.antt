@@ -42,7 +42,7 @@ withColumns head columns = record { height = head .height; members = head .membe
 
 -- the same columns under these settings
 abbrev pub settledHead : ℕ → ℕ → Head → Head
-settledHead N T head = withColumns (clearedHead N T) (head .columns)
+settledHead N T head = record { height = N; members = T; columns = head .columns }
 
 -- of the table of these columns: the one way to a head for whoever knows the columns
 abbrev pub headOf : ℕ → ℕ → List Column → Head
