@@ -4,3 +4,4 @@ pub mod Counts
 pub mod Planned
 pub mod Printed
 pub mod Lengths
+pub mod Whole

@@ -94,6 +94,10 @@ jobText (refused number place) = refusedLine number place
 abbrev pub most : ℕ
 most = 4_096
 
+-- room for every text (`Lengths`): 63 lines of at most 1,450 bytes each, and a line more
+abbrev pub mostText : ℕ
+mostText = 131_072
+
 -- WHAT THE PROGRAM PRINTS for these bytes
 unfoldable pub planText : List ℕ → List ℕ
 planText s = cond (ltb most (length s)) (refusedLine 17 0) (jobText (jobOf most s))

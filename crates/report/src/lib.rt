@@ -1,14 +1,15 @@
-// What the planning program prints for a job file, laid into a lent buffer as far as the buffer goes.
+// What the planning program prints for a job file. The functions below `plan_job` lay a text into a lent buffer as far as the buffer goes.
 ghost use mathlib.Core.Path.{_≡_};
-ghost use Prim.Native.Nat.{_+_, _≤_, _<_, min};
+ghost use Prim.Native.Nat.{_+_, _≤_, _<_};
 ghost use lib.ListN.{length, take};
 ghost use Rattle.paper.specs.Sequence.{_!_};
 ghost use Rattle.plate.specs.Refusal.{numberOf};
-ghost use Rattle.text.specs.Sink.{sink, put, laidOver};
+ghost use Rattle.text.specs.Sink.{sink, put};
 ghost use Rattle.plan.specs.Plan.{sheetsOf};
 ghost use Rattle.load.specs.Load.{jobOf};
-ghost use Rattle.report.specs.Lines.{most, refusedLine, headLine, boundaryText, boundariesText, noneLine, sequenceLine, countLines, planText};
-ghost use Rattle.report.specs.Work.{blankTable, blankSequence, blankSheets, sheetLine, sheetsText, plannedText, fileText};
+ghost use Rattle.report.specs.Lines.{most, mostText, refusedLine, headLine, boundaryText, boundariesText, noneLine, sequenceLine, countLines, jobText};
+ghost use Rattle.report.specs.Prints.{Prints};
+ghost use Rattle.report.specs.Work.{blankSequence, blankSheets, sheetLine, sheetsText, plannedText, fileText};
 use load::Load;
 use load::Loaded;
 use load::read_job;
@@ -220,21 +221,22 @@ fn put_file(input: &[u8], out: &mut [u8], table: &mut [u32]) -> usize
     }
 }
 
+// The text of any file.
 fn put_job(input: &[u8], out: &mut [u8]) -> usize
-    ensures { λ r. ⌜ sink r (now (out .exit)) ≡ put (fileText (jobOf most (now (input .entry))) blankTable) (sink 0 (now (out .entry))) ⌝ }
+    ensures { λ r. ⌜ (sink r (now (out .exit)) ≡ put (jobText (jobOf most (now (input .entry)))) (sink 0 (now (out .entry)))) × (length (jobText (jobOf most (now (input .entry)))) ≤ mostText) ⌝ }
 {
     let mut table = [0u32; MOST];
     put_file(input, out, &mut table)
 }
 
-// What the planning program prints for these bytes, laid into `out` as far as it goes; answers how many bytes were laid. No text is longer
-// than 131,072 bytes.
-pub fn plan_text(input: &[u8], out: &mut [u8]) -> usize
-    ensures { λ r. ⌜ (r ≡ min (length (planText (now (input .entry)))) (length (now (out .entry)))) × (now (out .exit) ≡ laidOver (planText (now (input .entry))) (now (out .entry))) ⌝ }
-    ensures { λ r. ⌜ (131072 ≤ length (now (out .entry)) → take r (now (out .exit)) ≡ planText (now (input .entry))) ⌝ }
+// What the planning program prints for the job whose first `count` bytes stand in `input`, all of it, laid into `text`; answers how many bytes
+// it is. The input has room for one byte more than a job may have, so that a longer one is seen to be longer, and the text for the longest.
+pub fn plan_job(input: &[u8; 4097], count: usize, text: &mut [u8; 131072]) -> usize
+    ensures { λ r. ⌜ Prints (now (input .entry)) count (now (text .entry)) r (now (text .exit)) ⌝ }
 {
-    if MOST < input.len() {
-        return put_refused(out, 17, 0);
+    let all: &[u8] = input;
+    if MOST < count {
+        return put_refused(text, 17, 0);
     }
-    put_job(input, out)
+    put_job(&all[..count], text)
 }
