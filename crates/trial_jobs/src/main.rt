@@ -3,16 +3,25 @@
 ghost use Prim.Native.Nat.{_+_, _≤_, _<_};
 ghost use lib.ListN.{length};
 use libc::STDOUT_FILENO;
-use report::plan_text;
+use report::plan_job;
 
 const MOST_INPUT: usize = 65536;
 
-// More than any text that `plan_text` makes.
-const MOST_TEXT: usize = 131072;
+// As many bytes of the file as the planning program reads of it, which print the same (`report`, `Prints`).
+fn read_in(file: &[u8], input: &mut [u8]) -> usize {
+    let mut i = 0;
+    while i < file.len() && i < input.len() {
+        input[i] = file[i];
+        i += 1;
+    }
+    i
+}
 
 fn print_case(number: usize, file: &[u8]) {
-    let mut text = [0u8; MOST_TEXT];
-    let length = plan_text(file, &mut text);
+    let mut input = [0u8; 4097];
+    let mut text = [0u8; 131072];
+    let count = read_in(file, &mut input);
+    let length = plan_job(&input, count, &mut text);
     io::write_all(STDOUT_FILENO, b"# ");
     io::print_decimal(STDOUT_FILENO, number as u64);
     io::write_all(STDOUT_FILENO, b"\n");
