@@ -18,6 +18,11 @@ int main(void) {
     uint8_t thicknesses[ENTRIES];
     int32_t sequence[COUNTS + 1];
 
+    if (shagorent_version() != SHAGORENT_VERSION) {
+        fprintf(stderr, "the library is of version %" PRIu32 ", the header of %u\n", shagorent_version(), SHAGORENT_VERSION);
+        return 1;
+    }
+
     shagorent_table_reply made = shagorent_clear_table(table, CELLS, HEIGHT, SET);
     for (int i = 0; made.number == SHAGORENT_DONE && i < 2; i++)
         made = shagorent_add_column(table, CELLS, made.head, columns[i], 2);

@@ -5,6 +5,9 @@ usage: plate.py PATH-OF-libshagorent.so
 import ctypes as c
 import sys
 
+VERSION = 40000
+"""Of the header that these declarations follow."""
+
 
 class Head(c.Structure):
     _fields_ = [("height", c.c_uint32), ("set", c.c_uint32), ("columns", c.c_uint32)]
@@ -29,6 +32,8 @@ def number(n):
 
 def main():
     library = c.CDLL(sys.argv[1])
+    library.shagorent_version.restype = c.c_uint32
+    assert library.shagorent_version() == VERSION, library.shagorent_version()
     for call in (library.shagorent_clear_table, library.shagorent_add_column):
         call.restype = TableReply
     for call in (library.shagorent_cells, library.shagorent_entries, library.shagorent_counts, library.shagorent_plan, library.shagorent_read_back):

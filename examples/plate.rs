@@ -23,6 +23,7 @@ struct Reply {
 #[rustfmt::skip]
 #[link(name = "shagorent", kind = "static")]
 extern "C" {
+    fn shagorent_version() -> u32;
     fn shagorent_clear_table(table: *mut u32, cells: usize, height: u32, set: u32) -> TableReply;
     fn shagorent_add_column(table: *mut u32, cells: usize, head: Head, column: *const u16, boundaries: usize) -> TableReply;
     fn shagorent_plan(table: *const u32, cells: usize, head: Head, bound: u32, errors: *mut u64, error_entries: usize,
@@ -31,9 +32,12 @@ extern "C" {
         thicknesses: *const u8, thickness_entries: usize, count: u32, out: *mut i32, room: usize) -> Reply;
 }
 
+// The version of the header that these declarations follow.
+const VERSION: u32 = 40000;
 const NO_SEQUENCE: u32 = 11;
 
 fn main() {
+    assert_eq!(unsafe { shagorent_version() }, VERSION);
     let (mut table, mut errors, mut thicknesses) = ([0u32; 24], [0u64; 45], [0u8; 45]);
     let (mut list, mut sequence) = ([0u64; 4], [0i32; 5]);
     let mut made = unsafe { shagorent_clear_table(table.as_mut_ptr(), table.len(), 4, 6) };

@@ -26,6 +26,13 @@
 extern "C" {
 #endif
 
+/* Version of this header. A library of another major version does not go with it; one of a greater minor version has more calls than are named
+ * here. `shagorent_version` answers the library's own, in the form of SHAGORENT_VERSION: ask once that the two agree. */
+#define SHAGORENT_VERSION_MAJOR 4u
+#define SHAGORENT_VERSION_MINOR 0u
+#define SHAGORENT_VERSION_PATCH 0u
+#define SHAGORENT_VERSION (SHAGORENT_VERSION_MAJOR * 10000u + SHAGORENT_VERSION_MINOR * 100u + SHAGORENT_VERSION_PATCH)
+
 /* Limits. */
 #define SHAGORENT_LEAST_HEIGHT 1u
 #define SHAGORENT_GREATEST_HEIGHT 512u
@@ -100,6 +107,11 @@ typedef struct {
     uint32_t bound;
     uint64_t place;
 } shagorent_job_reply;
+
+/* ---- Version. */
+
+/* The library's version: its major version * 10000 + its minor * 100 + its patch. */
+uint32_t shagorent_version(void);
 
 /* ---- Sizes of the buffers to lend; refusals 1, 2. */
 

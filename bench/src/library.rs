@@ -52,6 +52,7 @@ pub struct JobLoaded {
 }
 
 extern "C" {
+    fn shagorent_version() -> u32;
     fn shagorent_clear_table(table: *mut u32, n: usize, height: u32, set: u32) -> Tabled;
     fn shagorent_add_column(table: *mut u32, n: usize, head: Head, column: *const u16, boundaries: usize) -> Tabled;
     fn shagorent_join_tables(
@@ -151,6 +152,10 @@ pub fn as_loaded(answer: Answer<Loaded>) -> JobLoaded {
 
 // ---- The calls ----
 
+pub fn version() -> u32 {
+    unsafe { shagorent_version() }
+}
+
 pub fn clear_table(table: &mut [u32], height: u32, set: u32) -> Tabled {
     unsafe { shagorent_clear_table(table.as_mut_ptr(), table.len(), height, set) }
 }
@@ -226,4 +231,21 @@ pub fn entries(height: u32, set: u32) -> Reply {
 
 pub fn counts(height: u32, set: u32) -> Reply {
     unsafe { shagorent_counts(height, set) }
+}
+
+#[cfg(test)]
+mod tests {
+    const HEADER: &str = include_str!("../../include/shagorent.h");
+
+    /// The number that the header gives to a part of its version.
+    fn stated(part: &str) -> u32 {
+        let (_, after) =
+            HEADER.split_once(&format!("#define SHAGORENT_VERSION_{part} ")).expect("the header states it");
+        after.split_once("u\n").expect("the number is unsigned").0.parse().expect("it is a number")
+    }
+
+    #[test]
+    fn the_library_is_of_the_headers_version() {
+        assert_eq!(super::version(), stated("MAJOR") * 10000 + stated("MINOR") * 100 + stated("PATCH"));
+    }
 }

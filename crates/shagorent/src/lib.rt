@@ -4,191 +4,55 @@ ghost use Rattle.paper.specs.Layer.{columnOf};
 ghost use Rattle.paper.specs.Table.{cells};
 ghost use Rattle.paper.specs.Sheets.{entries};
 ghost use Rattle.paper.specs.Sequence.{M};
-ghost use Rattle.plate.specs.Refusal.{done, refusal, told, decided};
-ghost use Rattle.plate.specs.Head.{heldIn, toldTable};
+ghost use Rattle.plate.specs.Refusal.{decided};
+ghost use Rattle.plate.specs.Head.{heldIn};
 ghost use Rattle.plate.specs.Settings.{settingsChecks};
-ghost use Rattle.column.specs.Picture.{toldPicture, pictureAnswer};
-ghost use Rattle.motor.specs.Height.{toldLifted, heightAnswer};
+ghost use Rattle.column.specs.Picture.{pictureAnswer};
+ghost use Rattle.motor.specs.Height.{heightAnswer};
 ghost use Rattle.table.specs.Table.{clearing};
 ghost use Rattle.adding.specs.Adding.{adding};
 ghost use Rattle.joining.specs.Joining.{joining, taking};
 ghost use Rattle.plan.specs.Plan.{planning, sheetsIn};
 ghost use Rattle.readback.specs.Reading.{reading};
 ghost use Rattle.recount.specs.Recount.{recounting};
-ghost use Rattle.load.specs.Load.{toldLoad, jobOf, loading};
-ghost use Rattle.shagorent.specs.Replies.{Replies, reply, tableReply, pictureReply, heightReply, jobReply};
+ghost use Rattle.load.specs.Load.{jobOf, loading};
+ghost use Rattle.shagorent.specs.Version.{version};
+ghost use Rattle.replies.specs.Replies.{Replies, reply, tableReply, pictureReply, heightReply, jobReply};
 use adding::add_column;
-use column::Pictured;
 use column::picture;
 use joining::join_tables;
 use joining::take_off;
-use load::Loaded;
 use load::read_job;
-use motor::Lifted;
 use motor::motor_height;
 use plan::plan;
 use plate::head::Head;
-use plate::head::Tabled;
-use plate::refusal::Answer;
-use plate::refusal::Refusal;
 use plate::settings::Made;
 use plate::settings::Settings;
 use readback::read_back;
 use recount::recount;
+use replies::HeightReply;
+use replies::JobReply;
+use replies::PictureReply;
+use replies::Reply;
+use replies::TableReply;
+use replies::height_reply;
+use replies::job_reply;
+use replies::picture_reply;
+use replies::refused_reply;
+use replies::reply_of;
+use replies::size_reply;
+use replies::table_reply;
 use table::clear_table;
 
-// The answer, or a refusal's number and its place.
-#[repr(C)]
-pub struct Reply {
-    pub number: u32,
-    pub value: u64,
-}
-
-// What goes with the table then, or a refusal.
-#[repr(C)]
-pub struct TableReply {
-    pub number: u32,
-    pub head: Head,
-    pub place: u64,
-}
-
-// Whether the picture fills the column, and the share; or a refusal's number and its place.
-#[repr(C)]
-pub struct PictureReply {
-    pub number: u32,
-    pub filled: u32,
-    pub value: u64,
-}
-
-// The height in micrometres, or a refusal.
-#[repr(C)]
-pub struct HeightReply {
-    pub number: u32,
-    pub height: f32,
-    pub place: u64,
-}
-
-// What goes with a job's table, and the bound that it asks for; or a refusal.
-#[repr(C)]
-pub struct JobReply {
-    pub number: u32,
-    pub head: Head,
-    pub bound: u32,
-    pub place: u64,
-}
-
-fn reply_of(answer: Answer) -> Reply
-    ensures { λ r. ⌜ r ≡ reply (told answer) ⌝ }
+// The version of these calls, as SHAGORENT_VERSION of include/shagorent.h.
+#[no_mangle]
+pub extern "C" fn shagorent_version() -> u32
+    ensures { λ r. ⌜ r ≡ version ⌝ }
 {
-    match answer {
-        Answer::Done(value) => Reply { number: 0, value },
-        Answer::Refused(refusal) => {
-            let reason = refusal.reason;
-            Reply {
-                number: reason.number(),
-                value: refusal.place,
-            }
-        }
-    }
+    40000
 }
 
-fn table_reply(tabled: Tabled) -> TableReply
-    ensures { λ r. ⌜ r ≡ tableReply (toldTable tabled) ⌝ }
-{
-    match tabled {
-        Tabled::Done(head) => TableReply {
-            number: 0,
-            head,
-            place: 0,
-        },
-        Tabled::Refused(refusal) => {
-            let reason = refusal.reason;
-            TableReply {
-                number: reason.number(),
-                head: Head::cleared(0, 0),
-                place: refusal.place,
-            }
-        }
-    }
-}
-
-fn picture_reply(pictured: Pictured) -> PictureReply
-    ensures { λ r. ⌜ r ≡ pictureReply (toldPicture pictured) ⌝ }
-{
-    match pictured {
-        Pictured::Done(judged) => {
-            let filled = judged.filled;
-            let value = judged.share as u64;
-            if filled {
-                return PictureReply {
-                    number: 0,
-                    filled: 1,
-                    value,
-                };
-            }
-            PictureReply {
-                number: 0,
-                filled: 0,
-                value,
-            }
-        }
-        Pictured::Refused(refusal) => {
-            let reason = refusal.reason;
-            PictureReply {
-                number: reason.number(),
-                filled: 0,
-                value: refusal.place,
-            }
-        }
-    }
-}
-
-fn job_reply(loaded: Loaded) -> JobReply
-    ensures { λ r. ⌜ r ≡ jobReply (toldLoad loaded) ⌝ }
-{
-    match loaded {
-        Loaded::Done(load) => {
-            let head = load.head;
-            JobReply {
-                number: 0,
-                head,
-                bound: load.bound,
-                place: 0,
-            }
-        }
-        Loaded::Refused(refusal) => {
-            let reason = refusal.reason;
-            JobReply {
-                number: reason.number(),
-                head: Head::cleared(0, 0),
-                bound: 0,
-                place: refusal.place,
-            }
-        }
-    }
-}
-
-fn height_reply(lifted: Lifted) -> HeightReply
-    ensures { λ r. ⌜ r ≡ heightReply (toldLifted lifted) ⌝ }
-{
-    match lifted {
-        Lifted::Done(height) => HeightReply {
-            number: 0,
-            height,
-            place: 0,
-        },
-        Lifted::Refused(refusal) => {
-            let reason = refusal.reason;
-            HeightReply {
-                number: reason.number(),
-                height: 0.0,
-                place: refusal.place,
-            }
-        }
-    }
-}
-
-// ---- the calls
+// ---- tables, plans, pictures, motors and jobs
 
 #[no_mangle]
 pub extern "C" fn shagorent_clear_table(table: &mut [u32], height: u32, members: u32) -> TableReply
@@ -297,25 +161,6 @@ pub extern "C" fn shagorent_read_job(input: &[u8], most: usize, table: &mut [u32
 
 // ---- sizes, for buffers to be lent: of a table, of a sheet, and the greatest count; or refusals 1 and 2
 
-fn size_reply(size: usize) -> Reply
-    ensures { λ r. ⌜ r ≡ reply (done size) ⌝ }
-{
-    Reply {
-        number: 0,
-        value: size as u64,
-    }
-}
-
-fn bad_reply(bad: Refusal) -> Reply
-    ensures { λ r. ⌜ r ≡ reply (refusal bad) ⌝ }
-{
-    let reason = bad.reason;
-    Reply {
-        number: reason.number(),
-        value: bad.place,
-    }
-}
-
 #[no_mangle]
 pub extern "C" fn shagorent_cells(height: u32, members: u32) -> Reply
     ensures { λ r. ⌜ r ≡ reply (decided (settingsChecks height members) (cells height members)) ⌝ }
@@ -323,7 +168,7 @@ pub extern "C" fn shagorent_cells(height: u32, members: u32) -> Reply
     let made = Settings::new(height, members);
     match made {
         Made::Good(s) => size_reply(s.cells),
-        Made::Bad(refusal) => bad_reply(refusal),
+        Made::Bad(refusal) => refused_reply(refusal),
     }
 }
 
@@ -334,7 +179,7 @@ pub extern "C" fn shagorent_entries(height: u32, members: u32) -> Reply
     let made = Settings::new(height, members);
     match made {
         Made::Good(s) => size_reply(s.entries),
-        Made::Bad(refusal) => bad_reply(refusal),
+        Made::Bad(refusal) => refused_reply(refusal),
     }
 }
 
@@ -345,6 +190,6 @@ pub extern "C" fn shagorent_counts(height: u32, members: u32) -> Reply
     let made = Settings::new(height, members);
     match made {
         Made::Good(s) => size_reply(s.counts),
-        Made::Bad(refusal) => bad_reply(refusal),
+        Made::Bad(refusal) => refused_reply(refusal),
     }
 }

@@ -1,7 +1,7 @@
 -- `shagorent_add_column` meets its contract: the reply is what `add_column` tells. Assumes nothing.
 use borrow.Author.Needs.{needs}
-use Rattle.shagorent.specs.Replies.{tableReply}
-use Rattle.shagorent.proofs.Replies.{replies}
+use Rattle.replies.specs.Replies.{tableReply}
+use Rattle.replies.proofs.Replies.{replies}
 use Rattle.shagorent.proofs.shagorent_add_column.Statement.{statement}
 use Rattle.shagorent.proofs.shagorent_add_column.Tie as tie
 

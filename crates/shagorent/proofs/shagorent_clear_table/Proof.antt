@@ -1,7 +1,7 @@
 -- `shagorent_clear_table` meets its contract: the reply is what `clear_table` tells. Assumes nothing.
 use borrow.Author.Needs.{needs}
-use Rattle.shagorent.specs.Replies.{tableReply}
-use Rattle.shagorent.proofs.Replies.{replies}
+use Rattle.replies.specs.Replies.{tableReply}
+use Rattle.replies.proofs.Replies.{replies}
 use Rattle.shagorent.proofs.shagorent_clear_table.Statement.{statement}
 use Rattle.shagorent.proofs.shagorent_clear_table.Tie as tie
 

@@ -1,7 +1,7 @@
 -- `shagorent_join_tables` meets its contract: the reply is what `join_tables` tells. Assumes nothing.
 use borrow.Author.Needs.{needs}
-use Rattle.shagorent.specs.Replies.{tableReply}
-use Rattle.shagorent.proofs.Replies.{replies}
+use Rattle.replies.specs.Replies.{tableReply}
+use Rattle.replies.proofs.Replies.{replies}
 use Rattle.shagorent.proofs.shagorent_join_tables.Statement.{statement}
 use Rattle.shagorent.proofs.shagorent_join_tables.Tie as tie
 

@@ -5,7 +5,7 @@ use lib.IntN.{ℤ}
 use mir.Syntax.{w32}
 use mir.ValLaws.{toZ-ofZ}
 use Rattle.motor.specs.Height.{heightAnswer}
-use Rattle.shagorent.specs.Replies.{heightReply}
+use Rattle.replies.specs.Replies.{heightReply}
 use Rattle.shagorent.proofs.shagorent_motor_height.Statement.{statement}
 use Rattle.shagorent.proofs.shagorent_motor_height.Tie as tie
 

@@ -6,7 +6,7 @@ use mir.Syntax.{w32}
 use mir.ValLaws.{toZ-ofZ}
 use denote.Ref.{now}
 use Rattle.column.specs.Picture.{pictureAnswer}
-use Rattle.shagorent.specs.Replies.{pictureReply}
+use Rattle.replies.specs.Replies.{pictureReply}
 use Rattle.shagorent.proofs.shagorent_picture.Statement.{statement}
 use Rattle.shagorent.proofs.shagorent_picture.Tie as tie
 

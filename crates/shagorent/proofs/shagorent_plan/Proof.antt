@@ -1,7 +1,7 @@
 -- `shagorent_plan` meets its contract: the reply is what `plan` tells. Assumes nothing.
 use borrow.Author.Needs.{needs}
-use Rattle.shagorent.specs.Replies.{reply}
-use Rattle.shagorent.proofs.Replies.{replies}
+use Rattle.replies.specs.Replies.{reply}
+use Rattle.replies.proofs.Replies.{replies}
 use Rattle.shagorent.proofs.shagorent_plan.Statement.{statement}
 use Rattle.shagorent.proofs.shagorent_plan.Tie as tie
 

@@ -1,7 +1,7 @@
 -- `shagorent_read_job` meets its contract: the reply is what `read_job` tells. Assumes nothing.
 use borrow.Author.Needs.{needs}
-use Rattle.shagorent.specs.Replies.{jobReply}
-use Rattle.shagorent.proofs.Replies.{replies}
+use Rattle.replies.specs.Replies.{jobReply}
+use Rattle.replies.proofs.Replies.{replies}
 use Rattle.shagorent.proofs.shagorent_read_job.Statement.{statement}
 use Rattle.shagorent.proofs.shagorent_read_job.Tie as tie
 

@@ -1,7 +1,7 @@
 -- `shagorent_recount` meets its contract: the reply is what `recount` tells. Assumes nothing.
 use borrow.Author.Needs.{needs}
-use Rattle.shagorent.specs.Replies.{reply}
-use Rattle.shagorent.proofs.Replies.{replies}
+use Rattle.replies.specs.Replies.{reply}
+use Rattle.replies.proofs.Replies.{replies}
 use Rattle.shagorent.proofs.shagorent_recount.Statement.{statement}
 use Rattle.shagorent.proofs.shagorent_recount.Tie as tie
 

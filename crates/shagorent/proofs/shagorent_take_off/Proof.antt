@@ -1,7 +1,7 @@
 -- `shagorent_take_off` meets its contract: the reply is what `take_off` tells. Assumes nothing.
 use borrow.Author.Needs.{needs}
-use Rattle.shagorent.specs.Replies.{tableReply}
-use Rattle.shagorent.proofs.Replies.{replies}
+use Rattle.replies.specs.Replies.{tableReply}
+use Rattle.replies.proofs.Replies.{replies}
 use Rattle.shagorent.proofs.shagorent_take_off.Statement.{statement}
 use Rattle.shagorent.proofs.shagorent_take_off.Tie as tie
 

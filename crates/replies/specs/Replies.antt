@@ -10,11 +10,11 @@ use Rattle.plate.specs.Call.{Call, answerOf, leftBy}
 use Rattle.plate.specs.Head.{clearedHead}
 use Rattle.plate.specs.declared.head.Head.{Head}
 use Rattle.load.specs.declared.Load.{Load}
-use Rattle.shagorent.specs.declared.Reply.{Reply}
-use Rattle.shagorent.specs.declared.TableReply.{TableReply}
-use Rattle.shagorent.specs.declared.PictureReply.{PictureReply}
-use Rattle.shagorent.specs.declared.HeightReply.{HeightReply}
-use Rattle.shagorent.specs.declared.JobReply.{JobReply}
+use Rattle.replies.specs.declared.Reply.{Reply}
+use Rattle.replies.specs.declared.TableReply.{TableReply}
+use Rattle.replies.specs.declared.PictureReply.{PictureReply}
+use Rattle.replies.specs.declared.HeightReply.{HeightReply}
+use Rattle.replies.specs.declared.JobReply.{JobReply}
 
 -- THE PROMISE of every call for other languages that writes: the reply is what the call's answer becomes, and the memory is what it leaves
 pub record Replies {X B R : Type 0} (to : Told X → R) (call : Call X B) (reply : R) (now : B) : Type 0 where

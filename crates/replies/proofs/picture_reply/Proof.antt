@@ -1,8 +1,8 @@
 -- `picture_reply` meets its contract: filled is 1, and unfilled 0. Assumes nothing.
 use borrow.Author.Needs.{needs}
-use Rattle.shagorent.proofs.Replies.{picture-refused, picture-done}
-use Rattle.shagorent.proofs.picture_reply.Statement.{statement}
-use Rattle.shagorent.proofs.picture_reply.Tie as tie
+use Rattle.replies.proofs.Replies.{picture-refused, picture-done}
+use Rattle.replies.proofs.picture_reply.Statement.{statement}
+use Rattle.replies.proofs.picture_reply.Tie as tie
 
 pub picture-reply-spec : {M : Type 1} → statement M
 picture-reply-spec =

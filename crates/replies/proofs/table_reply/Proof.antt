@@ -1,8 +1,8 @@
 -- `table_reply` meets its contract: the number of the reason is document 01's. Assumes nothing.
 use borrow.Author.Needs.{needs}
-use Rattle.shagorent.proofs.Replies.{table-refused, table-done}
-use Rattle.shagorent.proofs.table_reply.Statement.{statement}
-use Rattle.shagorent.proofs.table_reply.Tie as tie
+use Rattle.replies.proofs.Replies.{table-refused, table-done}
+use Rattle.replies.proofs.table_reply.Statement.{statement}
+use Rattle.replies.proofs.table_reply.Tie as tie
 
 pub table-reply-spec : {M : Type 1} → statement M
 table-reply-spec =

@@ -1,8 +1,8 @@
 -- `job_reply` meets its contract: the number of the reason is document 01's. Assumes nothing.
 use borrow.Author.Needs.{needs}
-use Rattle.shagorent.proofs.Replies.{job-refused, job-done}
-use Rattle.shagorent.proofs.job_reply.Statement.{statement}
-use Rattle.shagorent.proofs.job_reply.Tie as tie
+use Rattle.replies.proofs.Replies.{job-refused, job-done}
+use Rattle.replies.proofs.job_reply.Statement.{statement}
+use Rattle.replies.proofs.job_reply.Tie as tie
 
 pub job-reply-spec : {M : Type 1} → statement M
 job-reply-spec =

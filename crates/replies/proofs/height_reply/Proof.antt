@@ -1,8 +1,8 @@
 -- `height_reply` meets its contract: the number of the reason is document 01's. Assumes nothing.
 use borrow.Author.Needs.{needs}
-use Rattle.shagorent.proofs.Replies.{height-refused, height-done}
-use Rattle.shagorent.proofs.height_reply.Statement.{statement}
-use Rattle.shagorent.proofs.height_reply.Tie as tie
+use Rattle.replies.proofs.Replies.{height-refused, height-done}
+use Rattle.replies.proofs.height_reply.Statement.{statement}
+use Rattle.replies.proofs.height_reply.Tie as tie
 
 pub height-reply-spec : {M : Type 1} → statement M
 height-reply-spec =

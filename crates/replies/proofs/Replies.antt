@@ -23,12 +23,9 @@ use Rattle.load.specs.Load.{toldLoad}
 use Rattle.load.specs.declared.Load.{Load}
 use Rattle.load.specs.declared.Loaded.{Loaded}
 use Rattle.load.specs.declared.Loaded.the-variants as loaded
-use Rattle.shagorent.specs.Replies.{Replies, reply, noHead, tableReply, pictureReply, heightReply, jobReply}
+use Rattle.replies.specs.Replies.{Replies, reply, noHead, tableReply, pictureReply, heightReply, jobReply}
 
 module _ (n : ℕ) (r : Refusal) (e : n ≡ numberOf (r .reason)) where
-  pub reply-refused : (a : Answer) → a ≡ answer.Refused r → record { number = n; value = r .place } ≡ reply (told a)
-  reply-refused a f = ap (λ (m : ℕ). record { number = m; value = r .place }) e ∙ sym (ap (λ (x : Answer). reply (told x)) f)
-
   pub table-refused : (head : Head) → head ≡ noHead → (a : Tabled) → a ≡ tabled.Refused r → record { number = n; head = head; place = r .place } ≡ tableReply (toldTable a)
   table-refused head h a f = (λ i. record { number = e i; head = h i; place = r .place }) ∙ sym (ap (λ (x : Tabled). tableReply (toldTable x)) f)
 
