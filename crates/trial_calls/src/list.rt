@@ -37,8 +37,11 @@ fn on_table(line: &[u8], table: &mut [u32]) {
         let given = show::label(line);
         show32(table, given[0]);
         show::end();
-        return;
     }
+}
+
+// The calls that write a table.
+fn changing(line: &[u8], table: &mut [u32]) {
     if begins(line, b"clear") {
         calls::clear(line, table);
         return;
@@ -53,8 +56,11 @@ fn on_table(line: &[u8], table: &mut [u32]) {
     }
     if begins(line, b"take off") {
         calls::take(line, table);
-        return;
     }
+}
+
+// The calls that only read one.
+fn asking(line: &[u8], table: &[u32]) {
     if begins(line, b"check") {
         calls::check(line, table);
         return;
@@ -101,6 +107,8 @@ fn on_sheets(line: &[u8], table: &[u32], errors: &mut [u64], thicknesses: &mut [
 fn one(line: &[u8], table: &mut [u32], errors: &mut [u64], thicknesses: &mut [u8]) {
     alone(line);
     on_table(line, table);
+    changing(line, table);
+    asking(line, table);
     on_errors(line, errors);
     on_thicknesses(line, thicknesses);
     on_sheets(line, table, errors, thicknesses);

@@ -7,11 +7,15 @@ mod list;
 mod memory;
 mod show;
 
-fn main() {
-    let mut text = [0u8; 524288];
-    let size = io::read_full(0, &mut text);
+fn run(list: &[u8]) {
     let mut table = [0u32; 18400];
     let mut errors = [0u64; 330700];
     let mut thicknesses = [0u8; 330700];
-    list::run(&text[..size], &mut table, &mut errors, &mut thicknesses);
+    list::run(list, &mut table, &mut errors, &mut thicknesses);
+}
+
+fn main() {
+    let mut text = [0u8; 524288];
+    let size = io::read_full(0, &mut text);
+    run(&text[..size]);
 }
