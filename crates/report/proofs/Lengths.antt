@@ -1,10 +1,12 @@
 -- How long the text of a job is at most. A job whose sheets fit has at most 63 counts, a line of a count has at most 64 boundaries, and a
 -- number at most 20 digits. Assumes nothing.
 use mathlib.Core.Path.{_≡_, refl}
+use mathlib.Core.Bool.{Bool, true, false, cond}
 use mathlib.Core.List.{List, [], _∷_, _++_}
 use mathlib.Core.Option.{Option, none, some}
 use Prim.Native.Nat.{ℕ, zero, suc, _+_, _*_, _≤_, _<_}
 use native.Mathlib.Omega.{arith}
+use lib.Dec.{ltb}
 use lib.IntN.{ℤ}
 use lib.ListN.{length, getD, length-append}
 use Rattle.paper.specs.Layer.{Plate, ofColumns}
@@ -18,7 +20,7 @@ use Rattle.load.proofs.Whole.{fitting}
 use Rattle.meaning.specs.Working.{found}
 use Rattle.meaning.proofs.Choice.{length-count, found-exact}
 use Rattle.promises.proofs.Fine.{settings-passed}
-use Rattle.report.specs.Lines.{refusedWord, atWord, heightWord, columnsWord, countsWord, noneWord, space, lineEnd, most, mostText, refusedLine, headLine, boundaryText, boundariesText, noneLine, sequenceLine, countLine, countLines, jobText}
+use Rattle.report.specs.Lines.{refusedWord, atWord, heightWord, columnsWord, countsWord, noneWord, space, lineEnd, most, mostText, refusedLine, headLine, boundaryText, boundariesText, noneLine, sequenceLine, countLine, countLines, jobText, planText}
 use Rattle.report.proofs.Printed.{few-counts}
 
 record AtMost (n : ℕ) (text : List ℕ) : Type 0 where
@@ -75,6 +77,10 @@ lines-length line n (suc k) e =
     let a = joined (e (suc n) (omega arith) (omega arith)) (lines-length line (suc n) k (λ m l u. e m (omega arith) (omega arith))) in
     record { fits = omega (arith, a .fits) }
 
+-- the program's buffer has room for the text of a file that is too long
+pub long-fits : length (refusedLine 17 0) ≤ mostText
+long-fits = omega (arith, refused-length 17 0 .fits)
+
 module _ (s : List ℕ) (byte : (i : ℕ) → getD s i 0 < 256) where
   job-length : (file : Told Job) → jobOf most s ≡ file → length (jobText file) ≤ mostText
   job-length (refused number place) e = omega (arith, refused-length number place .fits)
@@ -87,10 +93,15 @@ module _ (s : List ℕ) (byte : (i : ℕ) → getD s i 0 < 256) where
       let a = lines-length (λ n. countLine p n (found p (job .asked .bound) n)) 0 (M N T) (λ n l u. count-length p (job .asked .bound) n l (omega arith)) in
       omega (arith, joined (head-length N (length (job .columns)) (M N T)) a .fits, k)
 
-  -- the program's buffer has room for the text of a file
+  -- for that of a file that is not
   pub file-fits : length (jobText (jobOf most s)) ≤ mostText
   file-fits = job-length (jobOf most s) refl
 
--- and for that of a file that is too long
-pub long-fits : length (refusedLine 17 0) ≤ mostText
-long-fits = omega (arith, refused-length 17 0 .fits)
+  -- and so for every text
+  pub text-fits : length (planText s) ≤ mostText
+  unfolding planText
+  text-fits = go (ltb most (length s))
+    where
+      go : (b : Bool) → length (cond b (refusedLine 17 0) (jobText (jobOf most s))) ≤ mostText
+      go true = long-fits
+      go false = file-fits
