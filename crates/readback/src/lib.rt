@@ -45,21 +45,19 @@ fn thickness_at(thicknesses: &[u8], s: Settings, row: u32, m: usize) -> u32
     thicknesses[at] as u32
 }
 
-// Whether a layer of thickness t that ends at a row has the shape of one.
-fn is_layer_under(s: Settings, row: u32, t: u32) -> bool
+// Whether a layer of thickness t that ends at the height `top` has the shape of one.
+fn is_layer_under(s: Settings, top: u32, t: u32) -> bool
     requires { ⌜ Sound s ⌝ }
-    requires { ⌜ row ≤ s .rows ⌝ }
-    ensures { λ r. ⌜ r ≡ shape (s .height) (s .members) (atRow (s .tmax) row - t) t ⌝ }
+    ensures { λ r. ⌜ r ≡ shape (s .height) (s .members) (top - t) t ⌝ }
 {
-    if row < t {
+    if top < t {
         return false;
     }
-    let h = at_row(s.tmax as u32, row - t);
     is_layer(
         s.height as u16,
         s.members,
         s.tmax as u16,
-        h as u32,
+        top - t,
         t as usize,
     )
 }
@@ -75,9 +73,10 @@ fn walk_down(thicknesses: &[u8], s: Settings, n: usize, top: u32, heights: &mut 
     let mut row = top;
     let mut k = n;
     while 0 < k {
-        heights[k] = at_row(s.tmax as u32, row) as u16;
+        let h = at_row(s.tmax as u32, row);
+        heights[k] = h as u16;
         let t = thickness_at(thicknesses, s, row, k);
-        if !is_layer_under(s, row, t) {
+        if !is_layer_under(s, h as u32, t) {
             return Walk::Fault(k);
         }
         row -= t;

@@ -1,7 +1,7 @@
 -- `walk_down` meets its contract. The loop's invariant: what is left of the walk ends as the whole does, its boundaries under those that are
 -- noted are those of the whole, and the row is still one of the sheet's. Each way out is one step of the definitions. Assumes nothing.
-use mathlib.Core.Path.{_≡_, refl, sym, ap₂, _∙_}
-use mathlib.Core.Bool.{true}
+use mathlib.Core.Path.{_≡_, refl, sym, ap, ap₂, _∙_}
+use mathlib.Core.Bool.{Bool, true, false}
 use mathlib.Core.List.{[]}
 use Prim.Native.Nat.{ℕ, _+_, _-_, _≤_, _<_}
 use native.Mathlib.Omega.{arith}
@@ -36,6 +36,21 @@ abbrev μ-loop : tie.MeasureT-loop
 height-fits : {s : Settings} → Sound s → (q : ℕ) → q ≤ s .rows → atRow (s .tmax) q < 65536
 height-fits k q l = omega (arith, k .rows-are, k .high, k .thick)
 
+-- what was asked is the shape of the layer under the row
+module _ (c : tie.After-is-layer-under Inv-loop μ-loop) where
+  abbrev here : tie.At-loop Inv-loop μ-loop
+  here = c .before .before .before .before .before
+
+  abbrev known : Settings
+  known = here .before .before .before .args .s
+
+  abbrev thick : ℕ
+  thick = c .before .thickness-at .result
+
+  asked : (answer : Bool) → c .is-layer-under .result ≡ answer → shape (known .height) (known .members) (atRow (known .tmax) (here .loop .row) - thick) thick ≡ answer
+  asked answer e =
+      ap (λ (h : ℕ). shape (known .height) (known .members) (h - thick) thick) (sym (c .before .before .at-row .ensures)) ∙ sym (c .is-layer-under .ensures) ∙ e
+
 -- past the test on the layer
 module _ (c : tie.Else1 Inv-loop μ-loop) where
   abbrev l : tie.At-loop Inv-loop μ-loop
@@ -48,7 +63,7 @@ module _ (c : tie.Else1 Inv-loop μ-loop) where
   t = c .before .before .thickness-at .result
 
   in-shape : shape (s .args .s .height) (s .args .s .members) (atRow (s .args .s .tmax) (l .loop .row) - t) t ≡ true
-  in-shape = sym (c .before .is-layer-under .ensures) ∙ not-false _ (c .if1 .left)
+  in-shape = asked (c .before) true (not-false _ (c .if1 .left))
 
   -- the step down is to a row
   step : t ≤ l .loop .row
@@ -61,7 +76,7 @@ returns : tie.Need-returns Inv-loop μ-loop
 returns c =
     let l = c .before .before .before .before .before .before in
     faulted _ _ _ _ _ _ _
-    (l .loop .inv .3 ∙ fault-here _ _ _ (l .loop .k) (atRow _ (l .loop .row)) _ (omega arith) (c .before .before .thickness-at .ensures) (sym (c .before .is-layer-under .ensures) ∙ not-true _ (c .if1 .taken)))
+    (l .loop .inv .3 ∙ fault-here _ _ _ (l .loop .k) (atRow _ (l .loop .row)) _ (omega arith) (c .before .before .thickness-at .ensures) (asked (c .before) false (not-true _ (c .if1 .taken))))
 
 loop-again : tie.Need-loop-again Inv-loop μ-loop
 loop-again c =
@@ -109,7 +124,8 @@ walk-down-spec =
     (λ c. omega arith)
     (λ c. omega arith)
     (λ c κs. let s = c .before .before .before .before .before .before in (s .pre .0, record { whole = s .pre .1 .0 .whole; count = omega (arith, s .pre .1 .0 .count); row = omega (arith, s .pre .1 .0 .row) }))
-    (λ c κs. let s = c .before .before .before .before .before .before .before in (s .pre .0, omega (arith, s .pre .1 .0 .row)))
+    (λ c. let s = c .before .before .before .before .before .before .before in omega (arith, c .before .at-row .ensures, height-fits (s .pre .0) (c .before .before .before .before .loop .row) (omega (arith, s .pre .1 .0 .row))))
+    (λ c κs. c .before .before .before .before .before .before .before .pre .0)
     (λ c. search needs)
     returns
     (λ c. step c)
