@@ -81,44 +81,26 @@ pub(crate) fn add(line: &[u8], table: &mut [u32]) {
     show::end();
 }
 
-fn joined(given: [u64; 12], table: &mut [u32], other: &[u32]) -> Tabled {
-    joining::join_tables(
-        front32(table, given[0]),
-        head_at(given, 3),
-        part32(other, given[1]),
-        head_at(given, 6),
-    )
+// The second table joined into the first, or taken off it.
+fn combined(taking: bool, given: [u64; 12], table: &mut [u32], other: &[u32]) -> Tabled {
+    let first = front32(table, given[0]);
+    let second = part32(other, given[1]);
+    let head = head_at(given, 3);
+    let other_head = head_at(given, 6);
+    if taking {
+        return joining::take_off(first, head, second, other_head);
+    }
+    joining::join_tables(first, head, second, other_head)
 }
 
-fn taken(given: [u64; 12], table: &mut [u32], other: &[u32]) -> Tabled {
-    joining::take_off(
-        front32(table, given[0]),
-        head_at(given, 3),
-        part32(other, given[1]),
-        head_at(given, 6),
-    )
-}
-
-fn show_other(other: &[u32], asked: u64) {
+pub(crate) fn combine(line: &[u8], table: &mut [u32], taking: bool) {
+    let mut other = [0u32; 18400];
+    lay32(&mut other, line, b';');
+    let given = show::label(line);
+    tabled(combined(taking, given, table, &other));
     show::text(b"; other");
-    show32(other, asked);
+    show32(&other, given[2]);
     show::end();
-}
-
-pub(crate) fn join(line: &[u8], table: &mut [u32]) {
-    let mut other = [0u32; 18400];
-    lay32(&mut other, line, b';');
-    let given = show::label(line);
-    tabled(joined(given, table, &other));
-    show_other(&other, given[2]);
-}
-
-pub(crate) fn take(line: &[u8], table: &mut [u32]) {
-    let mut other = [0u32; 18400];
-    lay32(&mut other, line, b';');
-    let given = show::label(line);
-    tabled(taken(given, table, &other));
-    show_other(&other, given[2]);
 }
 
 // What a table that is in order is made for: its cells, M, and the entries of a sheet.

@@ -51,11 +51,11 @@ fn changing(line: &[u8], table: &mut [u32]) {
         return;
     }
     if begins(line, b"join") {
-        calls::join(line, table);
+        calls::combine(line, table, false);
         return;
     }
     if begins(line, b"take off") {
-        calls::take(line, table);
+        calls::combine(line, table, true);
     }
 }
 

@@ -1,4 +1,8 @@
 // A whole file read into a part of a buffer that holds a pattern before.
+ghost use mathlib.Core.Bool.{true};
+ghost use mathlib.Core.Path.{_≡_};
+ghost use Prim.Native.Nat.{ℕ, _+_, _<_};
+ghost use lib.ListN.{getD};
 use crate::show;
 use load::Load;
 use load::Loaded;
@@ -45,10 +49,13 @@ fn front(buffer: &mut [u32], size: usize) -> &mut [u32] {
     buffer
 }
 
-fn is_pattern(table: &[u32; 30]) -> bool {
+// Whether every cell is as it was.
+fn is_pattern(table: &[u32; 30]) -> bool
+    ensures { λ r. ⌜ (r ≡ true → (i : ℕ) → i < 30 → getD (now (table .entry)) i 0 ≡ 900 + i) ⌝ }
+{
     let mut i = 0;
     while i < 30 {
-        if table[i] != PATTERN[i] {
+        if table[i] != 900 + i as u32 {
             return false;
         }
         i += 1;
