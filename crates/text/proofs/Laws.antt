@@ -5,7 +5,7 @@ use mathlib.Core.List.{List, [], _∷_, _++_, append-assoc}
 use Prim.Native.Nat.{ℕ, suc, _+_, _≤_, _<_, min}
 use native.Mathlib.Omega.{arith}
 use borrow.Author.Tests.{lt-ltb, le-ltb}
-use lib.ListN.{length, set, take, drop, getD, length-append, drop-of-length-le, length-take}
+use lib.ListN.{length, set, take, drop, getD, length-append, drop-of-length-le}
 use native.Mathlib.Numerals.{add-one}
 use lib.Seq.{drop-cons}
 use Rattle.text.specs.Sink.{Sink, sink, putByte, put, laidOver}
@@ -73,7 +73,3 @@ unfolding laidOver
 laid-whole [] old l = refl
 laid-whole (b ∷ text) [] l = absurd (omega arith)
 laid-whole (b ∷ text) (x ∷ old) l = ap (λ (t : List ℕ). b ∷ t) (laid-whole text old (omega arith))
-
--- as many bytes as were laid are there
-pub laid-count : (text old new : List ℕ) (r : ℕ) → r ≡ min (length text) (length old) → new ≡ laidOver text old → r ≡ length (take r new)
-laid-count text old new r e f = omega (arith, length-take r new, ap (λ (l : List ℕ). length l) f ∙ length-laid text old)
