@@ -56,11 +56,11 @@ start-datum T z l = datum-above (32 - tmax T) z (rw (neg-height (tmax T) (tmax-l
 
 module _ (p : Plate) (bound : ℕ) where
   -- the layer from a up to b is permitted, as it is worked with
-  abbrev pub Permitted : ℕ → ℕ → Type 0
-  Permitted a b = rulesOf p bound .may a (b - a) ≡ true
+  abbrev pub PermittedBetween : ℕ → ℕ → Type 0
+  PermittedBetween a b = rulesOf p bound .may a (b - a) ≡ true
 
   -- then it is document 01's, and back
-  pub step-up : (a b : ℕ) → Permitted a b → IsLayer p bound (heightOf a) (heightOf b)
+  pub step-up : (a b : ℕ) → PermittedBetween a b → IsLayer p bound (heightOf a) (heightOf b)
   step-up a b e =
       let m = and-true (shape (p .N) (p .T) a (b - a)) (leb (p .layerError (heightOf a) (b - a)) bound) e in
       let t = shape-allowed (p .N) (p .T) a (b - a) (m .0) in
@@ -68,7 +68,7 @@ module _ (p : Plate) (bound : ℕ) where
       let d = difference-height a b (omega arith) in
       record { rises = lt-up a b l; member = rw d t; within = rw d (leb-true _ _ (m .1)) }
 
-  pub step-down : (a b : ℕ) → Usable (p .N) (p .T) (heightOf a) (b - a) → IsLayer p bound (heightOf a) (heightOf b) → Permitted a b
+  pub step-down : (a b : ℕ) → Usable (p .N) (p .T) (heightOf a) (b - a) → IsLayer p bound (heightOf a) (heightOf b) → PermittedBetween a b
   step-down a b u s =
       let l = lt-down a b (s .rises) in
       let w = rw (difference-height a b (omega arith)) at (s .within) in

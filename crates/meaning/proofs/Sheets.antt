@@ -23,7 +23,7 @@ use Rattle.sequence.specs.Sheets.{mark}
 use Rattle.sequence.proofs.Order.{first-antisym}
 use Rattle.sequence.proofs.Least.{AtMost, at-most-some, Walked, walk-is, least-le, last-zero, last-none, walk-first}
 use Rattle.meaning.specs.Working.{rulesOf, heightsOf}
-use Rattle.meaning.proofs.Sequence.{Steps, step-at, Permitted, layersUnder, length-under, thinner-first, first-thinner}
+use Rattle.meaning.proofs.Sequence.{Steps, step-at, PermittedBetween, layersUnder, length-under, thinner-first, first-thinner}
 use Rattle.meaning.proofs.Stacks.{stack-up, at-datum, start-at, rising-datum, thickness-datum, permitted-at}
 
 -- ---- the places of boundaries that were listed from the top down
@@ -53,9 +53,9 @@ module _ (p : Plate) (bound : ℕ) where
 
   abbrev Standing : List ℕ → Type 0
   Standing [] = ⊥
-  Standing (a ∷ bs) = (working.starts (tmax (p .T)) a ≡ true) × Steps (Permitted p bound) a bs
+  Standing (a ∷ bs) = (working.starts (tmax (p .T)) a ≡ true) × Steps (PermittedBetween p bound) a bs
 
-  standing : (h : ℕ) (ts above : List ℕ) → working.Built (rulesOf p bound) h ts → Steps (Permitted p bound) h above → Standing (upFrom h ts above)
+  standing : (h : ℕ) (ts above : List ℕ) → working.Built (rulesOf p bound) h ts → Steps (PermittedBetween p bound) h above → Standing (upFrom h ts above)
   standing h [] above b s = (b, s)
   standing h (t ∷ ts) above b s =
       let y = b .0 .above in
@@ -85,7 +85,7 @@ module _ (p : Plate) (bound : ℕ) where
     ends = e;
     stack =
         stack-up p bound (heightsOf (a ∷ bs)) m (λ k. getD (a ∷ bs) k 0) (λ k u. place-of (a ∷ bs) k (omega arith)) (s .0)
-        (λ k u. step-at (Permitted p bound) a bs (s .1) k (omega arith));
+        (λ k u. step-at (PermittedBetween p bound) a bs (s .1) k (omega arith));
   }
 
   pub ending-up : (h : ℕ) (ts : List ℕ) → working.Built (rulesOf p bound) h ts → Ending p bound (length ts) (heightOf h) (heightsOf (upFrom h ts []))

@@ -15,11 +15,11 @@ use Rattle.paper.proofs.Thicknesses.{tmax-le}
 use Rattle.plate.specs.Datum.{datum, heightOf}
 use Rattle.plate.proofs.Datum.{height-datum, datum-above, lt-up, lt-down, sum-height, difference-height, pos-height, neg-height}
 use Rattle.sequence.specs.Sequence.{starts}
-use Rattle.meaning.proofs.Sequence.{start-datum, Permitted, step-up, step-down, starts-up, starts-down}
+use Rattle.meaning.proofs.Sequence.{start-datum, PermittedBetween, step-up, step-down, starts-up, starts-down}
 
 -- from the heights of its boundaries
 pub stack-up : (p : Plate) (bound : ℕ) (zs : List ℤ) (m : ℕ) (h : ℕ → ℕ) → ((k : ℕ) → k ≤ m → zs ! k ≡ heightOf (h k))
-    → starts (tmax (p .T)) (h 0) ≡ true → ((k : ℕ) → k < m → Permitted p bound (h k) (h (suc k))) → Stack p bound zs m
+    → starts (tmax (p .T)) (h 0) ≡ true → ((k : ℕ) → k < m → PermittedBetween p bound (h k) (h (suc k))) → Stack p bound zs m
 stack-up p bound zs m h is s permitted = record {
   starts-above = rw (is 0 (omega arith)) (starts-up p bound (h 0) s .0);
   starts-by = rw (is 0 (omega arith)) (starts-up p bound (h 0) s .1);
@@ -77,7 +77,7 @@ module _ (p : Plate) (bound : ℕ) (zs : List ℤ) (m : ℕ) (a : Stack p bound 
       member = a .layers k l .member;
     }
 
-    pub permitted-at : (k : ℕ) → k < m → Permitted p bound (datum (zs ! k)) (datum (zs ! suc k))
+    pub permitted-at : (k : ℕ) → k < m → PermittedBetween p bound (datum (zs ! k)) (datum (zs ! suc k))
     permitted-at k l =
         let f = at-datum k (omega arith) in
         let u = rw (thickness-datum k l) at (layers-usable k l) in

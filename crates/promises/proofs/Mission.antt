@@ -56,15 +56,16 @@ module _ (N T : ℕ) (plate : List Column) (within : WithinLimits N T plate) whe
   held-plans : (held : Held) → Tabulated N T plate held → PlansPlate N T plate held
   held-plans held t bound small lent room =
       go (held .head .height) (held .head .members) (b .height) (b .members)
-      (λ settings room table. columns-plan held bound (omega arith) lent settings (b .bounds) room plate table)
+      (λ settings room table. columns-plan held bound small lent settings (b .bounds) room plate table)
     where
       b : TableOf N T held
       b = tabulated-bounds N T plate held (within .few) t
 
-      go : (M U : ℕ) → M ≡ N → U ≡ T
-          → (paper.Settings M U → Room M U lent → Table (ofColumns M U plate) (held .buffer) → Plans (ofColumns M U plate) held bound lent)
+      go : (height members : ℕ) → height ≡ N → members ≡ T
+          → (paper.Settings height members → Room height members lent → Table (ofColumns height members plate) (held .buffer)
+          → Plans (ofColumns height members plate) held bound lent)
           → Plans (ofColumns N T plate) held bound lent
-      go M U e f p = (rw (e, f) at p) (within .settings) room (t .table)
+      go height members e f p = (rw (e, f) at p) (within .settings) room (t .table)
 
   planned-from : (way : Way N T plate) → PlannedFrom N T plate (runOf N T plate way)
   planned-from way = let t = tabulated way in record { held = t .held; is = t .is; right = t .right; plans = held-plans (t .held) (t .right) }

@@ -37,7 +37,7 @@ use Rattle.table.proofs.Passed.{table-fine}
 use Rattle.plan.specs.Planning.{planRules}
 use Rattle.recount.specs.Recount.{outBetween, layerOut, firstLayerOut, sequenceChecks, recounting}
 use Rattle.meaning.specs.Working.{rulesOf}
-use Rattle.meaning.proofs.Sequence.{Permitted}
+use Rattle.meaning.proofs.Sequence.{PermittedBetween}
 use Rattle.meaning.proofs.Stacks.{stack-up, at-datum, start-at, permitted-at}
 use Rattle.promises.proofs.Fine.{settings-fine}
 use Rattle.promises.proofs.Plans.{rules-are}
@@ -100,7 +100,7 @@ module _ (N T bound : ℕ) (table : List ℕ) (settings : paper.Settings N T) (z
         let o = or-false (ltb (length zs) 2) (not (starts (tmax T) (datum (zs ! 0)))) (quiet .0) in
         (ltb-false (length zs) 2 (o .0), not-false (starts (tmax T) (datum (zs ! 0))) (o .1))
 
-    permitted : (k : ℕ) → k < count zs → Permitted (ofTable N T table) bound (datum (zs ! k)) (datum (zs ! suc k))
+    permitted : (k : ℕ) → k < count zs → PermittedBetween (ofTable N T table) bound (datum (zs ! k)) (datum (zs ! suc k))
     unfolding firstLayerOut
     permitted k l =
         let n = ltb-false (lowest (layerOut N T table bound zs) (count zs)) (count zs) (quiet .1) in
