@@ -26,8 +26,9 @@
 extern "C" {
 #endif
 
-/* Version of this header. A library of another major version does not go with it; one of a greater minor version has more calls than are named
- * here. `shagorent_version` answers the library's own, in the form of SHAGORENT_VERSION: ask once that the two agree. */
+/* Version of this header. A library of another major version does not go with it: a struct or a function's parameters are others. One of a greater
+ * minor version has more functions, or a rule that moved, as its changelog tells. `shagorent_version` answers the library's own, in the form of
+ * SHAGORENT_VERSION: ask once that the two agree. */
 #define SHAGORENT_VERSION_MAJOR 4u
 #define SHAGORENT_VERSION_MINOR 0u
 #define SHAGORENT_VERSION_PATCH 0u

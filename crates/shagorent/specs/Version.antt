@@ -1,7 +1,7 @@
 -- The version of the interface for other languages, which include/shagorent.h has too. Assumes nothing.
 use Prim.Native.Nat.{ℕ, _+_, _*_}
 
--- another major version: a call, a struct or a number means something else; another minor one: there is more; another patch: neither
+-- another major version: a struct or a call's parameters are others; another minor one: there is more, or a rule is another; another patch: neither
 abbrev pub major : ℕ
 major = 4
 
