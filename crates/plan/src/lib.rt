@@ -1,6 +1,6 @@
 // Plans: filling the two sheets and the list.
 ghost use mathlib.Core.Path.{_≡_};
-ghost use Prim.Native.Nat.{ℕ, _+_, _-_, _*_, _<_, _≤_};
+ghost use Prim.Native.Nat.{ℕ, _+_, _-_, _*_, _/_, _<_, _≤_};
 ghost use lib.ListN.{length};
 ghost use Rattle.lists.specs.Rewrite.{Span};
 ghost use Rattle.paper.specs.Sheets.{rowStart, entryIndex, missing};
@@ -62,13 +62,23 @@ fn may_use(table: &[u32], s: Settings, bound: u32, start: usize, t: usize) -> bo
     layer_cell(table, s, start, t) <= bound
 }
 
+// How many layers of thickness t fit in a rise of so many rows. Both numbers are small, and dividing them as 32 bits takes fewer
+// instructions: the compiler, which does not know that, would ask first.
+fn layers_in(s: Settings, rise: usize, t: usize) -> usize
+    requires { ⌜ Sound s ⌝ }
+    requires { ⌜ (rise ≤ s .rows) × (1 ≤ t) × (t ≤ s .tmax) ⌝ }
+    ensures { λ r. ⌜ r ≡ rise / t ⌝ }
+{
+    (rise as u32 / t as u32) as usize
+}
+
 // Past the counts that layers of at least tmin can reach the row `start` by, or the greatest count.
 fn end_count(s: Settings, start: usize) -> usize
     requires { ⌜ Sound s ⌝ }
     requires { ⌜ start < s .rows ⌝ }
     ensures { λ r. ⌜ (r ≤ s .counts) × ((m : ℕ) → r ≤ m → m < s .counts → start < m * s .tmin) ⌝ }
 {
-    let end = start / s.tmin + 1;
+    let end = layers_in(s, start, s.tmin) + 1;
     if s.counts < end {
         return s.counts;
     }
@@ -78,12 +88,13 @@ fn end_count(s: Settings, start: usize) -> usize
 // Fewer layers than this do not reach even the lowest row from which a layer ends at row q.
 fn first_count(s: Settings, q: usize) -> usize
     requires { ⌜ Sound s ⌝ }
+    requires { ⌜ q ≤ s .rows ⌝ }
     ensures { λ r. ⌜ r * s .tmax ≤ q - s .tmax ⌝ }
 {
     if q < s.tmax {
         return 0;
     }
-    (q - s.tmax) / s.tmax
+    layers_in(s, q - s.tmax, s.tmax)
 }
 
 // Row q with no sequence at all.

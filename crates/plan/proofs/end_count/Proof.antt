@@ -13,7 +13,7 @@ pub end-count-spec : {M : Type 1} → statement M
 end-count-spec =
     tie.close
     (tie.spec
+    (λ c κs. (c .pre .0, (omega (arith, c .pre .1), c .pre .0 .thin, c .pre .0 .order)))
+    (λ c. let s = c .before in omega (arith, c .layers-in .ensures, div-le-self (s .args .start) (s .args .s .tmin), s .pre .0 .rows-are, s .pre .0 .high, s .pre .0 .thick, s .pre .1))
     (λ c. search needs)
-    (λ c. let s = c .before in omega (arith, div-le-self (s .args .start) (s .args .s .tmin), s .pre .0 .rows-are, s .pre .0 .high, s .pre .0 .thick, s .pre .1))
-    (λ c. search needs)
-    (λ c. let s = c .before .before .before in (omega arith, λ m l u. past _ _ m (s .pre .0 .thin) l)))
+    (λ c. let s = c .before .before .before in (omega arith, λ m l u. past _ _ m (s .pre .0 .thin) (omega (arith, c .before .before .layers-in .ensures)))))

@@ -54,7 +54,7 @@ fill-row-spec =
     Inv-loop
     μ-loop
     (λ c κs. let s = c .before .before .before .before .before in (s .pre .0, (s .pre .1 .row, s .pre .1 .errors-whole, s .pre .1 .thicknesses-whole)))
-    (λ c κs. c .before .before .before .before .before .before .before .before .before .before .pre .0 .sound)
+    (λ c κs. let s = c .before .before .before .before .before .before .before .before .before .before in (s .pre .0 .sound, s .pre .1 .row))
     (λ c. let r = c .before .before .before .before .before in let s = r .before .before .before .before .before .before in (omega arith, row-self (s .args .s) _ _ (s .pre .0) (r .start-row .ensures)))
     (λ c. omega arith)
     step-row-requires
