@@ -97,19 +97,31 @@ fn first_count(s: Settings, q: usize) -> usize
     layers_in(s, q - s.tmax, s.tmax)
 }
 
-// Row q with no sequence at all.
-fn clear_row(s: Settings, q: usize, errors: &mut [u64], thicknesses: &mut [u8])
+// Row q of an error sheet with no sequence at all. Each sheet is cleared by a loop of its own: the compiler, which does not know that the two
+// lie apart, would ask so anew in every row, and clears one row of one sheet at once.
+fn clear_errors(s: Settings, q: usize, errors: &mut [u64])
     requires { ⌜ Sound s ⌝ }
-    requires { ⌜ (q ≤ s .rows) × (s .entries ≤ length (now errors)) × (s .entries ≤ length (now thicknesses)) ⌝ }
+    requires { ⌜ (q ≤ s .rows) × (s .entries ≤ length (now errors)) ⌝ }
     ensures { λ _. ⌜ Span 0 (rowStart (s .counts) q) (s .counts + 1) (λ m x. missing) (now (errors .entry)) (now (errors .exit)) ⌝ }
+{
+    let from = entry_of(s, q, 0);
+    let mut m = 0;
+    while m <= s.counts {
+        errors[from + m] = NONE;
+        m += 1;
+    }
+}
+
+// Row q of a thickness sheet with no sequence at all.
+fn clear_thicknesses(s: Settings, q: usize, thicknesses: &mut [u8])
+    requires { ⌜ Sound s ⌝ }
+    requires { ⌜ (q ≤ s .rows) × (s .entries ≤ length (now thicknesses)) ⌝ }
     ensures { λ _. ⌜ Span 0 (rowStart (s .counts) q) (s .counts + 1) (λ m x. 0) (now (thicknesses .entry)) (now (thicknesses .exit)) ⌝ }
 {
     let from = entry_of(s, q, 0);
     let mut m = 0;
     while m <= s.counts {
-        let at = from + m;
-        errors[at] = NONE;
-        thicknesses[at] = 0;
+        thicknesses[from + m] = 0;
         m += 1;
     }
 }
@@ -127,7 +139,8 @@ fn start_row(
     requires { ⌜ (q ≤ s .rows) × (s .entries ≤ length (now errors)) × (s .entries ≤ length (now thicknesses)) ⌝ }
     ensures { λ _. ⌜ RowTo s (tableRules s bound (now (table .entry))) q 0 (s .counts + 1) (now (errors .entry)) (now (thicknesses .entry)) (now (errors .exit)) (now (thicknesses .exit)) ⌝ }
 {
-    clear_row(s, q, errors, thicknesses);
+    clear_errors(s, q, errors);
+    clear_thicknesses(s, q, thicknesses);
     let at = entry_of(s, q, 0);
     if q < s.tmax {
         errors[at] = 0;

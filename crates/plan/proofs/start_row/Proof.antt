@@ -5,33 +5,37 @@ use Rattle.plan.proofs.Rows.{row-low, row-high}
 use Rattle.plan.proofs.start_row.Statement.{statement}
 use Rattle.plan.proofs.start_row.Tie as tie
 
--- past the clearing
+-- past the clearing of both sheets
 module _ (c : tie.After-entry-of) where
-  abbrev r : tie.After-clear-row
-  r = c .before .before .before .before .before
+  abbrev thicknesses : tie.After-clear-thicknesses
+  thicknesses = c .before .before .before
+
+  abbrev errors : tie.After-clear-errors
+  errors = thicknesses .before .before .before .before
 
   abbrev s : tie.Start
-  s = r .before .before .before .before .before .before
+  s = errors .before .before .before .before .before
 
 returns : tie.Need-returns
 returns c =
     let e = c .before .before in
-    row-low (s e .args .s) _ _ (s e .pre .0) (s e .args .q) (r e .clear-row .ensures .0) (r e .clear-row .ensures .1) _ (omega (arith, e .entry-of .ensures .0))
-    (omega (arith, e .entry-of .ensures .1, s e .pre .1 .1, r e .clear-row .ensures .0 .long)) (c .if1 .taken)
+    row-low (s e .args .s) _ _ (s e .pre .0) (s e .args .q) (errors e .clear-errors .ensures) (thicknesses e .clear-thicknesses .ensures) _ (omega (arith, e .entry-of .ensures .0))
+    (omega (arith, e .entry-of .ensures .1, s e .pre .1 .1, errors e .clear-errors .ensures .long)) (c .if1 .taken)
 
 returns-2 : tie.Need-returns-2
 returns-2 c =
     let e = c .before .before in
-    row-high (s e .args .s) _ _ (s e .pre .0) (s e .args .q) (r e .clear-row .ensures .0) (r e .clear-row .ensures .1) (c .if1 .left)
+    row-high (s e .args .s) _ _ (s e .pre .0) (s e .args .q) (errors e .clear-errors .ensures) (thicknesses e .clear-thicknesses .ensures) (c .if1 .left)
 
 pub start-row-spec : {M : Type 1} → statement M
 start-row-spec =
     tie.close
     (tie.spec
     (λ c κs. search needs)
-    (λ c κs. let s = c .before .before .before .before .before .before .before .before .before .before in (s .pre .0 .sound, (s .pre .1 .0, omega arith)))
+    (λ c κs. search needs)
+    (λ c κs. let s = c .before .before .before .before .before .before .before .before .before .before .before in (s .pre .0 .sound, (s .pre .1 .0, omega arith)))
     (λ c. let e = c .before .before in omega (arith, e .entry-of .ensures .1, s e .pre .0 .sound .few-entries))
-    (λ c. let e = c .before .before in omega (arith, e .entry-of .ensures .1, s e .pre .1 .1, r e .clear-row .ensures .0 .long))
+    (λ c. let e = c .before .before in omega (arith, e .entry-of .ensures .1, s e .pre .1 .1, errors e .clear-errors .ensures .long))
     (λ c. search needs)
     (λ c. search needs)
     returns
