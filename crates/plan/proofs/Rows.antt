@@ -6,6 +6,7 @@ use mathlib.Core.Path.{_≡_, refl, sym, ap, _∙_}
 use mathlib.Core.Bool.{Bool, true, false, cond, _&&_}
 use mathlib.Core.List.{List}
 use mathlib.Core.Option.{Option, none}
+use native.Mathlib.Decide.{decLt}
 use native.Mathlib.Omega.{arith}
 use lib.Arith.{digits-lt}
 use borrow.Author.Tests.{le-leb}
@@ -26,7 +27,7 @@ use Rattle.sequence.proofs.Bounds.{least-low}
 use Rattle.sequence.proofs.Layers.{start-in, start-high}
 use Rattle.sheets.proofs.Places.{entries-is}
 use Rattle.plan.specs.Planning.{Ready, planRules, tableRules, plannedErrors, plannedThicknesses}
-use Rattle.plan.specs.Rows.{errorTo, thicknessTo, RowTo, Under, Permitted, SheetTo}
+use Rattle.plan.specs.Rows.{errorTo, thicknessTo, RowTo, Under, Usable, Permitted, SheetTo}
 
 -- the row where the last layer starts
 module _ (s : Settings) (bound : ℕ) (table : List ℕ) (ready : Ready s table) where
@@ -43,16 +44,20 @@ module _ (s : Settings) (bound : ℕ) (table : List ℕ) (ready : Ready s table)
       let u : t ≤ atRow (s .tmax) q = omega (arith, ready .sound .thick) in
       rw (start-height q t l, le-leb t (atRow (s .tmax) q) u, e)
 
-  pub permitted : (q t : ℕ) (x : Bool) → 1 ≤ t → t ≤ s .tmax → t ≤ q → x ≡ p .may (atRow (s .tmax) (q - t)) t → x ≡ true → Permitted s p q t
-  permitted q t x a b l i e = record { thick = a; thin = b; above = l; permitted = sym i ∙ e }
+  pub permitted : (q t : ℕ) (x : Bool) → 1 ≤ t → t ≤ s .tmax → Usable x s p q t → x ≡ true → Permitted s p q t
+  permitted q t x a b u e = go (decLt q t)
+    where
+      go : Dec (q < t) → Permitted s p q t
+      go (yes l) = absurd (let z : _≡_ {A = Bool} true false = sym e ∙ u .under l in let y : _≡_ {A = ℕ} 0 1 = cc in omega arith)
+      go (no l) = record { thick = a; thin = b; above = omega arith; permitted = sym (u .may-is (omega arith)) ∙ e }
 
-  pub via-forbidden : (m q t : ℕ) (x : Bool) → t ≤ q → x ≡ p .may (atRow (s .tmax) (q - t)) t → x ≡ false → via p (λ g. least p m g) (atRow (s .tmax) q) t ≡ none
+  via-forbidden : (m q t : ℕ) (x : Bool) → t ≤ q → x ≡ p .may (atRow (s .tmax) (q - t)) t → x ≡ false → via p (λ g. least p m g) (atRow (s .tmax) q) t ≡ none
   via-forbidden m q t x l i e =
       let u : t ≤ atRow (s .tmax) q = omega (arith, ready .sound .thick) in
       rw (start-height q t l, le-leb t (atRow (s .tmax) q) u, ← i, e)
 
   -- one that would start under the lowest row
-  pub via-under : (m q t : ℕ) → q < t → via p (λ g. least p m g) (atRow (s .tmax) q) t ≡ none
+  via-under : (m q t : ℕ) → q < t → via p (λ g. least p m g) (atRow (s .tmax) q) t ≡ none
   unfolding planRules
   via-under m q t l =
       let e : least p m (atRow (s .tmax) q - t) ≡ none = least-low p m (atRow (s .tmax) q - t) (omega (arith, ready .sound .thick, ready .sound .greatest)) in
@@ -61,6 +66,13 @@ module _ (s : Settings) (bound : ℕ) (table : List ℕ) (ready : Ready s table)
       go : (b : Bool) → _≡_ {A = Option ℕ} (cond b none none) none
       go true = refl
       go false = refl
+
+  pub via-unusable : (m q t : ℕ) (x : Bool) → Usable x s p q t → x ≡ false → via p (λ g. least p m g) (atRow (s .tmax) q) t ≡ none
+  via-unusable m q t x u e = go (decLt q t)
+    where
+      go : Dec (q < t) → via p (λ g. least p m g) (atRow (s .tmax) q) t ≡ none
+      go (yes l) = via-under m q t l
+      go (no l) = via-forbidden m q t x (omega arith) (u .may-is (omega arith)) e
 
   -- a row by no layer: the lowest tmax rows are the start heights
   start-low : (q : ℕ) → q < s .tmax → bestTo p 0 (atRow (s .tmax) q) 0 ≡ found 0 0

@@ -14,7 +14,7 @@ ghost use Rattle.sheets.specs.Entries.{leastEnd};
 ghost use Rattle.sheets.specs.Least.{IsLeast};
 ghost use Rattle.plan.specs.Plan.{planRest, planChecks, planning, sheetsIn};
 ghost use Rattle.plan.specs.Planning.{Ready, tableRules, plannedErrors, plannedThicknesses, plannedList};
-ghost use Rattle.plan.specs.Rows.{RowTo, Under, Permitted, Planned};
+ghost use Rattle.plan.specs.Rows.{RowTo, Under, Usable, Permitted, Planned};
 use plate::head::Head;
 use plate::refusal::Answer;
 use plate::refusal::Reason;
@@ -24,7 +24,6 @@ use plate::settings::Settings;
 use putting::put_all;
 use sheets::Least;
 use sheets::NONE;
-use sheets::at_row;
 use sheets::entry_index;
 use sheets::is_layer;
 use sheets::least_end;
@@ -49,17 +48,16 @@ fn layer_cell(table: &[u32], s: Settings, start: usize, t: usize) -> u32
     cell_of(table, s.tmax as u32, start as u32, t as u32)
 }
 
-// Whether a layer from row `start` of thickness t is permitted.
-fn may_use(table: &[u32], s: Settings, bound: u32, start: usize, t: usize) -> bool
+// Whether a layer of thickness t that ends at row q starts at a row, and is permitted there.
+fn may_use(table: &[u32], s: Settings, bound: u32, q: usize, t: usize) -> bool
     requires { ⌜ Sound s ⌝ }
-    requires { ⌜ (start ≤ s .rows) × (t ≤ s .tmax) ⌝ }
-    ensures { λ r. ⌜ r ≡ tableRules s bound (now (table .entry)) .may (atRow (s .tmax) start) t ⌝ }
+    requires { ⌜ (q ≤ s .rows) × (t ≤ s .tmax) ⌝ }
+    ensures { λ r. ⌜ Usable r s (tableRules s bound (now (table .entry))) q t ⌝ }
 {
-    let h = at_row(s.tmax as u32, start as u32);
-    if !is_layer(s.height as u16, s.members, s.tmax as u16, h as u32, t) {
+    if !is_layer(s.height as u16, s.members, s.tmax as u16, q as u32, t) {
         return false;
     }
-    layer_cell(table, s, start, t) <= bound
+    layer_cell(table, s, q - t, t) <= bound
 }
 
 // How many layers of thickness t fit in a rise of so many rows. Both numbers are small, and dividing them as 32 bits takes fewer
@@ -200,10 +198,8 @@ fn step_row(
     requires { ⌜ RowTo s (tableRules s bound (now table)) q (t - 1) (s .counts + 1) (now errors) (now thicknesses) (now errors) (now thicknesses) ⌝ }
     ensures { λ _. ⌜ RowTo s (tableRules s bound (now (table .entry))) q t (s .counts + 1) (now (errors .entry)) (now (thicknesses .entry)) (now (errors .exit)) (now (thicknesses .exit)) ⌝ }
 {
-    if t <= q {
-        if may_use(table, s, bound, q - t, t) {
-            relax(table, s, bound, q, t, first, errors, thicknesses);
-        }
+    if may_use(table, s, bound, q, t) {
+        relax(table, s, bound, q, t, first, errors, thicknesses);
     }
 }
 

@@ -45,21 +45,12 @@ fn thickness_at(thicknesses: &[u8], s: Settings, row: u32, m: usize) -> u32
     thicknesses[at] as u32
 }
 
-// Whether a layer of thickness t that ends at the height `top` has the shape of one.
-fn is_layer_under(s: Settings, top: u32, t: u32) -> bool
+// Whether a layer of thickness t that ends at a row has the shape of one.
+fn is_layer_under(s: Settings, row: u32, t: u32) -> bool
     requires { ⌜ Sound s ⌝ }
-    ensures { λ r. ⌜ r ≡ shape (s .height) (s .members) (top - t) t ⌝ }
+    ensures { λ r. ⌜ r ≡ shape (s .height) (s .members) (atRow (s .tmax) row - t) t ⌝ }
 {
-    if top < t {
-        return false;
-    }
-    is_layer(
-        s.height as u16,
-        s.members,
-        s.tmax as u16,
-        top - t,
-        t as usize,
-    )
+    is_layer(s.height as u16, s.members, s.tmax as u16, row, t as usize)
 }
 
 // Walks down from the row `top` through n layers, notes each boundary's height, and says how the walk ends. Each step waits for the one
@@ -76,7 +67,7 @@ fn walk_down(thicknesses: &[u8], s: Settings, n: usize, top: u32, heights: &mut 
         let h = at_row(s.tmax as u32, row);
         heights[k] = h as u16;
         let t = thickness_at(thicknesses, s, row, k);
-        if !is_layer_under(s, h as u32, t) {
+        if !is_layer_under(s, row, t) {
             return Walk::Fault(k);
         }
         row -= t;

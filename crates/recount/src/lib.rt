@@ -32,7 +32,7 @@ pub enum Layer {
 // The datum height of boundary k.
 fn datum_at(sequence: &[i32], k: usize) -> usize
     requires { ⌜ k < length (now sequence) ⌝ }
-    ensures { λ r. ⌜ r ≡ datum (now (sequence .entry) ! k) ⌝ }
+    ensures { λ r. ⌜ (r ≡ datum (now (sequence .entry) ! k)) × (r < 4294967296) ⌝ }
 {
     datum_of(sequence[k])
 }
@@ -40,17 +40,18 @@ fn datum_at(sequence: &[i32], k: usize) -> usize
 // The layer from the datum height below up to above.
 fn look(table: &[u32], s: Settings, bound: u32, below: usize, above: usize) -> Layer
     requires { ⌜ Sound s ⌝ }
-    requires { ⌜ (32 < below + s .tmax) × (below < s .height + s .tmax + 32) ⌝ }
+    requires { ⌜ (32 < below + s .tmax) × (below < s .height + s .tmax + 32) × (above < 4294967296) ⌝ }
     ensures { λ r. ⌜ Looked r (s .height) (s .members) (now (table .entry)) bound below above ⌝ }
 {
     if above <= below {
         return Layer::Out;
     }
     let t = above - below;
-    if !is_layer(s.height as u16, s.members, s.tmax as u16, below as u32, t) {
+    let row = row_of(s.tmax as u32, below as u32);
+    let end = row + t;
+    if !is_layer(s.height as u16, s.members, s.tmax as u16, end as u32, t) {
         return Layer::Out;
     }
-    let row = row_of(s.tmax as u32, below as u32);
     let error = cell_of(table, s.tmax as u32, row as u32, t as u32);
     if bound < error {
         return Layer::Out;

@@ -5,10 +5,10 @@ ghost use Prim.Native.Nat.{_<_};
 ghost use lib.ListN.{getD};
 ghost use Rattle.paper.specs.Sheets.{entryIndex, missing};
 ghost use Rattle.plate.specs.Datum.{rowOf, atRow};
-ghost use Rattle.sequence.specs.Rules.{shapeBy};
 ghost use Rattle.sequence.specs.Sequence.{starts};
 ghost use Rattle.sheets.specs.Entries.{leastFrom, leastEnd};
 ghost use Rattle.sheets.specs.Least.{IsLeast};
+ghost use Rattle.sheets.specs.Shaped.{Shaped};
 use plate::settings::is_allowed;
 
 // The entry that stands for none.
@@ -59,17 +59,18 @@ pub fn is_start(tmax: usize, h: usize) -> bool
     32 - h < tmax
 }
 
-// Whether a layer from the height h of thickness t has the shape of one. The numbers are as narrow as settings allow, so that no sum overflows.
-pub fn is_layer(height: u16, members: u32, tmax: u16, h: u32, t: usize) -> bool
-    ensures { λ r. ⌜ r ≡ shapeBy height members tmax h t ⌝ }
+// Whether a layer of thickness t that ends at a row has the shape of one: asked by the row, whose height need not be found for each thickness.
+// The numbers are as narrow as settings allow, so that no sum overflows.
+pub fn is_layer(height: u16, members: u32, tmax: u16, row: u32, t: usize) -> bool
+    ensures { λ r. ⌜ Shaped r height members tmax row t ⌝ }
 {
     if !is_allowed(members, t) {
         return false;
     }
-    if h as usize + tmax as usize <= 32 {
+    if (row as usize) < t {
         return false;
     }
-    h as usize + t < height as usize + 32 + tmax as usize
+    row as usize + 1 < height as usize + 2 * tmax as usize
 }
 
 // The entry at a place, and NONE past the sheet's end.

@@ -1,18 +1,32 @@
--- `is_layer_under` meets its contract: a layer that would start under the datum has not the shape of one, and else the height where it starts
--- tells. Assumes nothing.
-use mathlib.Core.Path.{sym, _∙_}
+-- `is_layer_under` meets its contract: a layer that would start under the lowest row has not the shape of one, and else the height of the
+-- row where it starts tells. Assumes nothing.
+use Prim.Native.Nat.{ℕ, _-_, _<_}
+use mathlib.Core.Path.{_≡_, sym, ap, _∙_}
+use mathlib.Core.Bool.{Bool}
+use native.Mathlib.Decide.{decLt}
 use native.Mathlib.Omega.{arith}
 use borrow.Author.Needs.{needs}
+use Rattle.plate.specs.Datum.{atRow}
+use Rattle.plate.specs.Settings.{Sound}
+use Rattle.plate.specs.declared.settings.Settings.{Settings}
+use Rattle.sequence.specs.Rules.{shape}
 use Rattle.sequence.proofs.Layers.{shape-by, shape-low}
+use Rattle.sheets.specs.Shaped.{Shaped}
 use Rattle.readback.proofs.is_layer_under.Statement.{statement}
 use Rattle.readback.proofs.is_layer_under.Tie as tie
+
+module _ (s : Settings) (sound : Sound s) (row t : ℕ) (answer : Bool) (a : Shaped answer (s .height) (s .members) (s .tmax) row t) where
+  told : Dec (row < t) → answer ≡ shape (s .height) (s .members) (atRow (s .tmax) row - t) t
+  told (yes l) = a .under l ∙ sym (shape-low _ _ _ _ (omega (arith, sound .greatest, sound .thick)))
+  told (no l) =
+      let e : atRow (s .tmax) (row - t) ≡ atRow (s .tmax) row - t = omega (arith, sound .thick) in
+      a .shape-is (omega arith) (sound .thick) ∙ shape-by _ _ _ _ _ (sound .greatest) ∙ ap (λ (h : ℕ). shape (s .height) (s .members) h t) e
 
 pub is-layer-under-spec : {M : Type 1} → statement M
 is-layer-under-spec =
     tie.close
     (tie.spec
-    (λ c. let s = c .before in sym (shape-low _ _ _ _ (omega (arith, s .pre .greatest, s .pre .thick))))
     (λ c. search needs)
     (λ c. search needs)
     (λ c κs. search needs)
-    (λ c. c .is-layer .ensures ∙ shape-by _ _ _ _ _ (c .before .before .before .before .pre .greatest)))
+    (λ c. let s = c .before .before .before in told (s .args .s) (s .pre) _ _ _ (c .is-layer .ensures) (decLt _ _)))

@@ -48,8 +48,7 @@ module _ (c : tie.After-is-layer-under Inv-loop μ-loop) where
   thick = c .before .thickness-at .result
 
   asked : (answer : Bool) → c .is-layer-under .result ≡ answer → shape (known .height) (known .members) (atRow (known .tmax) (here .loop .row) - thick) thick ≡ answer
-  asked answer e =
-      ap (λ (h : ℕ). shape (known .height) (known .members) (h - thick) thick) (sym (c .before .before .at-row .ensures)) ∙ sym (c .is-layer-under .ensures) ∙ e
+  asked answer e = sym (c .is-layer-under .ensures) ∙ e
 
 -- past the test on the layer
 module _ (c : tie.Else1 Inv-loop μ-loop) where
@@ -124,7 +123,6 @@ walk-down-spec =
     (λ c. omega arith)
     (λ c. omega arith)
     (λ c κs. let s = c .before .before .before .before .before .before in (s .pre .0, record { whole = s .pre .1 .0 .whole; count = omega (arith, s .pre .1 .0 .count); row = omega (arith, s .pre .1 .0 .row) }))
-    (λ c. let s = c .before .before .before .before .before .before .before in omega (arith, c .before .at-row .ensures, height-fits (s .pre .0) (c .before .before .before .before .loop .row) (omega (arith, s .pre .1 .0 .row))))
     (λ c κs. c .before .before .before .before .before .before .before .pre .0)
     (λ c. search needs)
     returns

@@ -1,13 +1,14 @@
 -- `look` meets its contract: boundaries that do not rise have no thickness between them, and else the layer's height tells its shape, and its
 -- cell its error. Assumes nothing.
-use mathlib.Core.Path.{_≡_, sym, _∙_}
+use mathlib.Core.Path.{_≡_, sym, ap, _∙_}
 use mathlib.Core.Bool.{Bool, true, false}
-use Prim.Native.Nat.{_-_}
+use Prim.Native.Nat.{ℕ, _+_, _-_}
 use native.Mathlib.Omega.{arith}
 use borrow.Author.Needs.{needs}
 use borrow.Author.Tests.{not-true, not-false}
 use Rattle.paper.proofs.Thicknesses.{allowed-under, allowed-to}
-use Rattle.sequence.specs.Rules.{shape}
+use Rattle.plate.specs.Datum.{atRow}
+use Rattle.sequence.specs.Rules.{shapeBy, shape}
 use Rattle.sequence.proofs.Layers.{shape-by, shape-barred, shape-allowed, shape-to}
 use Rattle.table.specs.Cells.{cellFrom}
 use Rattle.table.proofs.Cells.{cell-read}
@@ -17,12 +18,26 @@ use Rattle.recount.proofs.look.Tie as tie
 
 -- what was asked is the shape
 module _ (c : tie.After-is-layer) where
+  abbrev lower : tie.After-row-of
+  lower = c .before .before .before
+
   abbrev s : tie.Start
-  s = c .before .before .before .before .before
+  s = lower .before .before .before .before
+
+  abbrev t : ℕ
+  t = s .args .above - s .args .below
+
+  -- it starts at the row of the lower boundary
+  starts-at : atRow (s .args .s .tmax) (lower .row-of .result + t - t) ≡ s .args .below
+  starts-at = omega (arith, lower .row-of .ensures, s .pre .1, s .pre .0 .thick)
 
   asked : (answer : Bool) → c .is-layer .result ≡ answer
       → shape (s .args .s .height) (s .args .s .members) (s .args .below) (s .args .above - s .args .below) ≡ answer
-  asked answer e = sym (shape-by _ _ _ _ (s .args .s .tmax) (s .pre .0 .greatest)) ∙ sym (c .is-layer .ensures) ∙ e
+  asked answer e =
+      sym (shape-by _ _ _ _ (s .args .s .tmax) (s .pre .0 .greatest))
+      ∙ ap (λ (h : ℕ). shapeBy (s .args .s .height) (s .args .s .members) (s .args .s .tmax) h t) (sym starts-at)
+      ∙ sym (c .is-layer .ensures .shape-is (omega arith) (s .pre .0 .thick))
+      ∙ e
 
 -- past the test on the shape
 module _ (c : tie.Else2) where
@@ -34,14 +49,11 @@ module _ (c : tie.Else2) where
 
 -- past the cell
 module _ (c : tie.After-cell-of) where
-  abbrev row : tie.After-row-of
-  row = c .before .before
-
   abbrev d : tie.Else2
-  d = row .before .before
+  d = c .before .before
 
   reads : c .cell-of .result ≡ cellFrom (s (i d) .args .s .members) (s (i d) .args .table .now) (s (i d) .args .below) (s (i d) .args .above - s (i d) .args .below)
-  reads = c .cell-of .ensures ∙ cell-read _ _ _ _ _ _ (s (i d) .pre .0 .greatest) (row .row-of .ensures)
+  reads = c .cell-of .ensures ∙ cell-read _ _ _ _ _ _ (s (i d) .pre .0 .greatest) (lower (i d) .row-of .ensures)
 
 returns-4 : tie.Need-returns-4
 returns-4 c =
@@ -62,15 +74,16 @@ look-spec =
     (λ c. search needs)
     (λ c. search needs)
     (λ c. search needs)
+    (λ c κs. search needs)
+    (λ c. let s = c .before .before .before .before in omega (arith, c .row-of .ensures, s .pre .1, s .pre .0 .thick))
     (λ c. search needs)
+    (λ c. search needs)
+    (λ c. let r = c .before .before in let s = r .before .before .before .before in omega (arith, r .row-of .ensures, s .pre .1, s .pre .0 .thick))
     (λ c κs. search needs)
     (λ c. out-shape _ _ _ _ _ _ (asked (c .before) false (not-true _ (c .if2 .taken))))
     (λ c. search needs)
     (λ c. search needs)
-    (λ c κs. search needs)
-    (λ c. search needs)
-    (λ c. search needs)
-    (λ c. omega (arith, allowed-to _ _ (shape-allowed _ _ _ _ (in-shape (c .before .before .before)))))
+    (λ c. omega (arith, allowed-to _ _ (shape-allowed _ _ _ _ (in-shape (c .before)))))
     (λ c κs. search needs)
     (λ c. let k = c .before in out-bound _ _ _ _ _ _ (in-shape (d k)) (omega (arith, reads k)))
     (λ c. search needs)

@@ -38,7 +38,7 @@ loop-holds c =
     let s = c .before .before in
     let from = start-from _ _ (s .pre .1 .starts-in) in
     let to = start-to _ _ (s .pre .1 .starts-in) in
-    let d = c .datum-at .ensures in
+    let d = c .datum-at .ensures .0 in
     let g = s .pre .0 .greatest in
     (omega arith, omega (arith, s .pre .0 .thick), omega arith, omega (arith, s .pre .0 .low), omega arith, d, below-none _, refl)
 
@@ -58,7 +58,7 @@ module _ (c : tie.After-look Inv-loop μ-loop) where
 
   between : layerOut (s .args .s .height) (s .args .s .members) (s .args .table .now) (s .args .bound) (s .args .sequence .now) (l .loop .k)
       ≡ outBetween (s .args .s .height) (s .args .s .members) (s .args .table .now) (s .args .bound) (l .loop .below) (c .before .datum-at2 .result)
-  between = layer-between (s .pre .0) _ _ _ _ _ _ (l .loop .inv .5) (c .before .datum-at2 .ensures) (omega arith)
+  between = layer-between (s .pre .0) _ _ _ _ _ _ (l .loop .inv .5) (c .before .datum-at2 .ensures .0) (omega arith)
 
 returns : tie.Need-returns Inv-loop μ-loop
 returns c =
@@ -80,9 +80,9 @@ loop-again c =
       omega (arith, t .rises),
       omega (arith, t .ends, g),
       omega (arith, t .small),
-      k .before .datum-at2 .ensures,
+      k .before .datum-at2 .ensures .0,
       below-more _ _ (l k .loop .inv .6) (between k ∙ t .admissible),
-      one-more (s k .pre .0) _ _ (s k .args .sequence .now) (l k .loop .k) _ _ (l k .loop .inv .5) (k .before .datum-at2 .ensures) (omega arith) _ _ t (l k .loop .inv .7),
+      one-more (s k .pre .0) _ _ (s k .args .sequence .now) (l k .loop .k) _ _ (l k .loop .inv .5) (k .before .datum-at2 .ensures .0) (omega arith) _ _ t (l k .loop .inv .7),
     )
 
 returns-2 : tie.Need-returns-2 Inv-loop μ-loop

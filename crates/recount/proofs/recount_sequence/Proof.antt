@@ -20,7 +20,7 @@ returns c = ap (λ (r : Refusal). told (Refused r)) (c .refusal-at .ensures) ∙
 
 -- whether the first is a start
 start-is : (c : tie.After-is-start) → c .is-start .result ≡ starts (tmax (c .before .before .before .before .args .s .members)) (datum (c .before .before .before .before .args .sequence .now ! 0))
-start-is c = let s = c .before .before .before .before in c .is-start .ensures ∙ ap₂ starts (s .pre .greatest) (c .before .datum-at .ensures)
+start-is c = let s = c .before .before .before .before in c .is-start .ensures ∙ ap₂ starts (s .pre .greatest) (c .before .datum-at .ensures .0)
 
 returns-2 : tie.Need-returns-2
 returns-2 c =
