@@ -95,8 +95,8 @@ fn first_count(s: Settings, q: usize) -> usize
     layers_in(s, q - s.tmax, s.tmax)
 }
 
-// Row q of an error sheet with no sequence at all. Each sheet is cleared by a loop of its own: the compiler, which does not know that the two
-// lie apart, would ask so anew in every row, and clears one row of one sheet at once.
+// Row q of an error sheet with no sequence at all. Each sheet is cleared by a loop of its own, which the compiler makes one fill; over both in
+// one loop it would ask in every row whether they overlap.
 fn clear_errors(s: Settings, q: usize, errors: &mut [u64])
     requires { ⌜ Sound s ⌝ }
     requires { ⌜ (q ≤ s .rows) × (s .entries ≤ length (now errors)) ⌝ }

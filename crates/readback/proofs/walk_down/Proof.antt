@@ -1,6 +1,6 @@
 -- `walk_down` meets its contract. The loop's invariant: what is left of the walk ends as the whole does, its boundaries under those that are
 -- noted are those of the whole, and the row is still one of the sheet's. Each way out is one step of the definitions. Assumes nothing.
-use mathlib.Core.Path.{_≡_, refl, sym, ap, ap₂, _∙_}
+use mathlib.Core.Path.{_≡_, refl, sym, ap₂, _∙_}
 use mathlib.Core.Bool.{Bool, true, false}
 use mathlib.Core.List.{[]}
 use Prim.Native.Nat.{ℕ, _+_, _-_, _≤_, _<_}

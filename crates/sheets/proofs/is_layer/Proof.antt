@@ -10,7 +10,6 @@ use borrow.Author.Tests.{not-true, not-false, lt-ltb, le-ltb}
 use lib.Dec.{ltb}
 use Rattle.paper.specs.Layer.{allowed}
 use Rattle.paper.specs.Limits.{mostThickness}
-use Rattle.paper.proofs.Thicknesses.{allowed-to}
 use Rattle.plate.specs.Datum.{atRow}
 use Rattle.sequence.specs.Rules.{shapeBy}
 use Rattle.sheets.specs.Shaped.{Shaped}
