@@ -23,7 +23,7 @@ use Rattle.plan.proofs.may_use.Tie as tie
 module _ (s : Settings) (sound : Sound s) (q t : ℕ) (answer : Bool) (a : Shaped answer (s .height) (s .members) (s .tmax) q t) where
   -- what was asked is the shape
   asked : t ≤ q → shape (s .height) (s .members) (atRow (s .tmax) (q - t)) t ≡ answer
-  asked l = sym (shape-by _ _ _ _ (s .tmax) (sound .greatest)) ∙ sym (a .shape-is l (sound .thick))
+  asked l = sym (shape-by _ _ _ _ (s .tmax) (sound .greatest)) ∙ sym (a .shape-is _ (omega (arith, sound .thick)))
 
   -- a layer in shape starts at a row
   above : answer ≡ true → t ≤ q

@@ -1,7 +1,7 @@
--- `is_layer_under` meets its contract: a layer that would start under the lowest row has not the shape of one, and else the height of the
--- row where it starts tells. Assumes nothing.
+-- `is_layer_under` meets its contract: a layer that would start under the lowest row has not the shape of one, and else the height
+-- where it starts tells. Assumes nothing.
 use Prim.Native.Nat.{ℕ, _-_, _<_}
-use mathlib.Core.Path.{_≡_, sym, ap, _∙_}
+use mathlib.Core.Path.{_≡_, sym, _∙_}
 use mathlib.Core.Bool.{Bool}
 use native.Mathlib.Decide.{decLt}
 use native.Mathlib.Omega.{arith}
@@ -18,9 +18,7 @@ use Rattle.readback.proofs.is_layer_under.Tie as tie
 module _ (s : Settings) (sound : Sound s) (row t : ℕ) (answer : Bool) (a : Shaped answer (s .height) (s .members) (s .tmax) row t) where
   told : Dec (row < t) → answer ≡ shape (s .height) (s .members) (atRow (s .tmax) row - t) t
   told (yes l) = a .under l ∙ sym (shape-low _ _ _ _ (omega (arith, sound .greatest, sound .thick)))
-  told (no l) =
-      let e : atRow (s .tmax) (row - t) ≡ atRow (s .tmax) row - t = omega (arith, sound .thick) in
-      a .shape-is (omega arith) (sound .thick) ∙ shape-by _ _ _ _ _ (sound .greatest) ∙ ap (λ (h : ℕ). shape (s .height) (s .members) h t) e
+  told (no l) = a .shape-is _ (omega (arith, sound .thick)) ∙ shape-by _ _ _ _ _ (sound .greatest)
 
 pub is-layer-under-spec : {M : Type 1} → statement M
 is-layer-under-spec =

@@ -1,14 +1,13 @@
 -- `look` meets its contract: boundaries that do not rise have no thickness between them, and else the layer's height tells its shape, and its
 -- cell its error. Assumes nothing.
-use mathlib.Core.Path.{_≡_, sym, ap, _∙_}
+use mathlib.Core.Path.{_≡_, sym, _∙_}
 use mathlib.Core.Bool.{Bool, true, false}
-use Prim.Native.Nat.{ℕ, _+_, _-_}
+use Prim.Native.Nat.{_-_}
 use native.Mathlib.Omega.{arith}
 use borrow.Author.Needs.{needs}
 use borrow.Author.Tests.{not-true, not-false}
 use Rattle.paper.proofs.Thicknesses.{allowed-under, allowed-to}
-use Rattle.plate.specs.Datum.{atRow}
-use Rattle.sequence.specs.Rules.{shapeBy, shape}
+use Rattle.sequence.specs.Rules.{shape}
 use Rattle.sequence.proofs.Layers.{shape-by, shape-barred, shape-allowed, shape-to}
 use Rattle.table.specs.Cells.{cellFrom}
 use Rattle.table.proofs.Cells.{cell-read}
@@ -24,20 +23,10 @@ module _ (c : tie.After-is-layer) where
   abbrev s : tie.Start
   s = lower .before .before .before .before
 
-  abbrev t : ℕ
-  t = s .args .above - s .args .below
-
-  -- it starts at the row of the lower boundary
-  starts-at : atRow (s .args .s .tmax) (lower .row-of .result + t - t) ≡ s .args .below
-  starts-at = omega (arith, lower .row-of .ensures, s .pre .1, s .pre .0 .thick)
-
   asked : (answer : Bool) → c .is-layer .result ≡ answer
       → shape (s .args .s .height) (s .args .s .members) (s .args .below) (s .args .above - s .args .below) ≡ answer
   asked answer e =
-      sym (shape-by _ _ _ _ (s .args .s .tmax) (s .pre .0 .greatest))
-      ∙ ap (λ (h : ℕ). shapeBy (s .args .s .height) (s .args .s .members) (s .args .s .tmax) h t) (sym starts-at)
-      ∙ sym (c .is-layer .ensures .shape-is (omega arith) (s .pre .0 .thick))
-      ∙ e
+      sym (shape-by _ _ _ _ (s .args .s .tmax) (s .pre .0 .greatest)) ∙ sym (c .is-layer .ensures .shape-is (s .args .below) (omega (arith, lower .row-of .ensures, s .pre .1))) ∙ e
 
 -- past the test on the shape
 module _ (c : tie.Else2) where
