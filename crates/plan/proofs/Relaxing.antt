@@ -4,7 +4,7 @@
 use Prim.Native.Nat.{ℕ, _+_, _-_, _*_, _≤_, _<_}
 use mathlib.Core.Path.{_≡_, refl, sym, ap, _∙_}
 use mathlib.Core.Bool.{true, cond}
-use mathlib.Core.List.{List}
+use mathlib.Core.List.{List, _++_}
 use mathlib.Core.Logic.{_⊎_, inl, inr, ⊎-elim}
 use mathlib.Core.Option.{Option, none, some}
 use native.Mathlib.Nat.{mul-le-mul-left, mul-le-mul-right}
@@ -12,9 +12,11 @@ use native.Mathlib.Decide.{decLt}
 use native.Mathlib.Omega.{arith}
 use borrow.Author.Tests.{lt-ltb, le-ltb}
 use lib.Dec.{ltb}
-use lib.ListN.{length, getD}
+use lib.ListN.{length, getD, take, drop}
 use Rattle.lists.specs.Best.{Best, value, place}
-use Rattle.lists.proofs.Spans.{span-within}
+use Rattle.lists.specs.Rewrite.{Span}
+use Rattle.lists.proofs.Lent.{lent-at, lent-long, span-lent}
+use Rattle.lists.proofs.Spans.{span-as, span-within}
 use Rattle.paper.specs.Sheets.{rowStart, entryIndex, missing}
 use Rattle.paper.proofs.Counts.{counts-reach}
 use Rattle.plate.specs.Datum.{atRow}
@@ -28,8 +30,8 @@ use Rattle.sequence.proofs.Bounds.{least-few, least-many}
 use Rattle.sequence.proofs.Marks.{Small}
 use Rattle.table.specs.Cells.{cellFrom}
 use Rattle.sheets.proofs.Places.{row-in}
-use Rattle.putting.specs.Putting.{sumOrNone, sumAt, betterError, betterThickness, PutOn, fits, PutAll}
-use Rattle.putting.proofs.Putting.{error-less, error-keep, thickness-less, thickness-keep, room-yes}
+use Rattle.putting.specs.Putting.{sumOrNone, sumAt, betterError, betterThickness, PutOn, PutAll}
+use Rattle.putting.proofs.Putting.{error-less, error-keep, thickness-less, thickness-keep}
 use Rattle.plan.specs.Planning.{greatestError, Ready, planRules, tableRules}
 use Rattle.plan.specs.Rows.{errorTo, thicknessTo, RowTo, Under, Permitted}
 use Rattle.plan.proofs.Sums.{layer-thick, sum-most, via-small}
@@ -159,31 +161,69 @@ module _ {table : List ℕ} {bound q t : ℕ} {E F : List ℕ} {first end from t
           thicknesses-right (first + m + 1) (omega (arith, r .end-few)) v ∙ ap (λ (i : ℕ). getD F i 0) e ∙ sym (thickness-keep _ _ _ _ (omega arith)),
         )
 
-  -- the places of the counts
-  pub room : fits from to (end - first) (length E) (length F) ≡ true
-  room =
-      let i = row-in s (r .ready .sound) q (s .counts) (r .under .row) (omega arith) in
+  -- the places of the counts: what is read lies before what is written, and that in both sheets
+  pub from-before : from + (end - first) ≤ to
+  from-before =
       let d : (q - t + 1) * (s .counts + 1) ≤ q * (s .counts + 1) = mul-le-mul-right (s .counts + 1) (omega (arith, r .permitted .thick, r .permitted .above)) in
-      room-yes from to (end - first) (length E) (length F) (omega (arith, r .end-few, first-end, r .from-is, r .to-is))
-      (omega (arith, r .end-few, first-end, r .under .errors-whole, r .to-is)) (omega (arith, r .end-few, first-end, r .under .thicknesses-whole, r .to-is))
+      omega (arith, r .end-few, first-end, r .from-is, r .to-is)
 
-  pub relaxed : {G H : List ℕ} → PutAll from to cell t (end - first) E F G H → RowTo s p q t (s .counts + 1) E F G H
-  relaxed {G} {H} a = record {
-    errors-are =
-        span-within (s .counts + 1) (λ m x. errorTo s p q t m) (o .errors-are) (omega (arith, r .to-is)) (omega (arith, r .end-few, first-end, r .to-is))
-        (λ m a b. errors-right m a (same m a b))
-        (λ m a. ap (errorTo s p q t) (index m) ∙ inside m a (decLt _ _) .0);
-    thicknesses-are =
-        span-within (s .counts + 1) (λ m x. thicknessTo s p q t m) (o .thicknesses-are) (omega (arith, r .to-is)) (omega (arith, r .end-few, first-end, r .to-is))
-        (λ m a b. thicknesses-right m a (same m a b))
-        (λ m a. ap (thicknessTo s p q t) (index m) ∙ inside m a (decLt _ _) .1);
-  }
-    where
-      o : PutOn from to cell t (end - first) E F G H
-      o = a .put room
+  pub to-in : to + (end - first) ≤ s .entries
+  to-in = let i = row-in s (r .ready .sound) q (s .counts) (r .under .row) (omega arith) in omega (arith, r .end-few, first-end, r .to-is)
 
-      index : (m : ℕ) → to - rowStart (s .counts) q + m ≡ first + m + 1
-      index m = omega (arith, r .to-is)
+  -- the parts of the sheets that are lent, and what comes back
+  module _ (past : ℕ) (past-is : past ≡ to + (end - first)) (E′ F′ : List ℕ)
+      (a : PutAll cell t (take (past - from) (drop from E)) (take (past - to) (drop to F)) E′ F′) where
+    errors-long : length (take (past - from) (drop from E)) ≡ past - from
+    errors-long = lent-long from (past - from) E (omega (arith, from-before, to-in, r .under .errors-whole))
 
-      same : (m : ℕ) → m < s .counts + 1 → (rowStart (s .counts) q + m < to) ⊎ (to + (end - first) ≤ rowStart (s .counts) q + m) → bestTo p m high t ≡ bestTo p m high (t - 1)
-      same m a b = out m a (λ k e. ⊎-elim (λ x. inl (omega (arith, r .to-is))) (λ x. inr (omega (arith, first-end, r .to-is))) b)
+    thicknesses-long : length (take (past - to) (drop to F)) ≡ end - first
+    thicknesses-long = lent-long to (past - to) F (omega (arith, to-in, r .under .thicknesses-whole)) ∙ omega arith
+
+    o : PutOn (to - from) 0 cell t (end - first) (take (past - from) (drop from E)) (take (past - to) (drop to F)) E′ F′
+    o =
+        let e : length (take (past - from) (drop from E)) - length (take (past - to) (drop to F)) ≡ to - from = omega (arith, errors-long, thicknesses-long, from-before) in
+        let p = a .put (omega (arith, errors-long, thicknesses-long, from-before)) in
+        rw (e, thicknesses-long) at p
+
+    -- what is read of the error sheet's part is what the sheet held
+    sum-same : (m : ℕ) → m < end - first → sumAt (take (past - from) (drop from E)) cell (0 + m) ≡ sumAt E cell (from + m)
+    sum-same m l =
+        let e : 0 + m ≡ m = omega arith in
+        ap (λ (x : ℕ). sumOrNone x cell) (ap (λ (i : ℕ). getD (take (past - from) (drop from E)) i 0) e ∙ lent-at 0 from (past - from) E m (omega (arith, from-before)))
+
+    error-same : (m : ℕ) → m < end - first → getD (take (past - from) (drop from E)) (to - from + 0 + m) 0 ≡ getD E (to + m) 0
+    error-same m l =
+        let e : from + (to - from + 0 + m) ≡ to + m = omega (arith, from-before) in
+        lent-at 0 from (past - from) E (to - from + 0 + m) (omega (arith, from-before)) ∙ ap (λ (i : ℕ). getD E i 0) e
+
+    errors-put : Span 0 to (end - first) (λ m x. betterError (sumAt E cell (from + m)) x) E (take from E ++ (E′ ++ drop (past - from) (drop from E)))
+    errors-put =
+        let e : from + (to - from + 0) ≡ to = omega (arith, from-before) in
+        let g =
+        span-lent 0 from (past - from) E E′ (omega (arith, from-before, to-in, r .under .errors-whole)) (o .errors-are .long ∙ errors-long) (o .errors-are) (omega (arith, from-before)) in
+        span-as (rw e at g) _ (λ m l. rw (sum-same m l))
+
+    thicknesses-put : Span 0 to (end - first) (λ m x. betterThickness (sumAt E cell (from + m)) (getD E (to + m) 0) t x) F (take to F ++ (F′ ++ drop (past - to) (drop to F)))
+    thicknesses-put =
+        let e : to + 0 ≡ to = omega arith in
+        let g =
+        span-lent 0 to (past - to) F F′ (omega (arith, to-in, r .under .thicknesses-whole)) (o .thicknesses-are .long ∙ omega (arith, thicknesses-long)) (o .thicknesses-are) (omega arith) in
+        span-as (rw e at g) _ (λ m l. rw (sum-same m l, error-same m l))
+
+    pub relaxed : RowTo s p q t (s .counts + 1) E F (take from E ++ (E′ ++ drop (past - from) (drop from E))) (take to F ++ (F′ ++ drop (past - to) (drop to F)))
+    relaxed = record {
+      errors-are =
+          span-within (s .counts + 1) (λ m x. errorTo s p q t m) errors-put (omega (arith, r .to-is)) (omega (arith, r .end-few, first-end, r .to-is))
+          (λ m a b. errors-right m a (same m a b))
+          (λ m a. ap (errorTo s p q t) (index m) ∙ inside m a (decLt _ _) .0);
+      thicknesses-are =
+          span-within (s .counts + 1) (λ m x. thicknessTo s p q t m) thicknesses-put (omega (arith, r .to-is)) (omega (arith, r .end-few, first-end, r .to-is))
+          (λ m a b. thicknesses-right m a (same m a b))
+          (λ m a. ap (thicknessTo s p q t) (index m) ∙ inside m a (decLt _ _) .1);
+    }
+      where
+        index : (m : ℕ) → to - rowStart (s .counts) q + m ≡ first + m + 1
+        index m = omega (arith, r .to-is)
+
+        same : (m : ℕ) → m < s .counts + 1 → (rowStart (s .counts) q + m < to) ⊎ (to + (end - first) ≤ rowStart (s .counts) q + m) → bestTo p m high t ≡ bestTo p m high (t - 1)
+        same m a b = out m a (λ k e. ⊎-elim (λ x. inl (omega (arith, r .to-is))) (λ x. inr (omega (arith, first-end, r .to-is))) b)

@@ -24,19 +24,19 @@ use plate::settings::Settings;
 use putting::put_all;
 use sheets::Least;
 use sheets::NONE;
-use sheets::entry_index;
 use sheets::is_layer;
 use sheets::least_end;
 use table::cell_of;
 use table::check_table;
 
-// Where the entry of the row q and the count m stands.
+// Where the entry of the row q and the count m stands. It is reckoned here, where settings are sound, and not by `sheets`, which asks nothing and
+// so takes narrower numbers: across a narrowing the compiler does not go from row to row by an addition.
 fn entry_of(s: Settings, q: usize, m: usize) -> usize
     requires { ⌜ Sound s ⌝ }
     requires { ⌜ (q ≤ s .rows) × (m ≤ s .counts) ⌝ }
     ensures { λ r. ⌜ (r ≡ entryIndex (s .counts) q m) × (r < s .entries) ⌝ }
 {
-    entry_index(s.counts as u32, q as u32, m as u32)
+    q * (s.counts + 1) + m
 }
 
 // The cell of the layer from row `start` of thickness t.
@@ -169,15 +169,12 @@ fn relax(
     let to = entry_of(s, q, first) + 1;
     let cell = layer_cell(table, s, start, t);
     let end = end_count(s, start);
-    let many = end - first;
+    let past = to + (end - first);
     put_all(
-        errors,
-        thicknesses,
-        from as u32,
-        to as u32,
+        &mut errors[from..past],
+        &mut thicknesses[to..past],
         cell,
         t as u8,
-        many as u32,
     );
 }
 

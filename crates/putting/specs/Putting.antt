@@ -1,10 +1,11 @@
--- A last layer put on the sequences of one row, count after count. The entries that it starts from stand in the error sheet from the place
--- `from` on, those that it ends at in both sheets from the place `to` on; `cell` is its error and t its thickness. Assumes nothing.
-use Prim.Native.Nat.{ℕ, _+_, _-_, _≤_}
+-- A last layer put on the sequences of one row, count after count, in a part of each sheet. The thickness sheet's part has the entries of the
+-- counts that it ends at. The error sheet's part begins with the entries that it starts from and ends with those that it ends at, which
+-- lie `apart` after them; `cell` is its error and t its thickness. Assumes nothing.
+use Prim.Native.Nat.{ℕ, _+_, _-_, _/_, _≤_, _<_}
 use mathlib.Core.Path.{_≡_}
-use mathlib.Core.Bool.{Bool, true, false, cond, _&&_}
+use mathlib.Core.Bool.{cond}
 use mathlib.Core.List.{List}
-use lib.Dec.{leb, ltb}
+use lib.Dec.{ltb}
 use lib.ListN.{length, getD}
 use Rattle.lists.specs.Rewrite.{Span}
 use Rattle.paper.specs.Sheets.{missing}
@@ -24,22 +25,20 @@ betterError sum error = cond (ltb sum error) sum error
 unfoldable pub betterThickness : ℕ → ℕ → ℕ → ℕ → ℕ
 betterThickness sum error t thickness = cond (ltb sum error) t thickness
 
--- the layer is put on the sequences of n counts, and all else is as it was before
-pub record PutOn (from to cell t n : ℕ) (errors-before thicknesses-before errors thicknesses : List ℕ) : Type 0 where
-  pub errors-are : Span 0 to n (λ m x. betterError (sumAt errors-before cell (from + m)) x) errors-before errors
-  pub thicknesses-are : Span 0 to n (λ m x. betterThickness (sumAt errors-before cell (from + m)) (getD errors-before (to + m) 0) t x) thicknesses-before thicknesses
+-- the layer is put on the sequences of n counts from `first` on, and all else is as it was before
+pub record PutOn (apart first cell t n : ℕ) (errors-before thicknesses-before errors thicknesses : List ℕ) : Type 0 where
+  pub errors-are : Span 0 (apart + first) n (λ m x. betterError (sumAt errors-before cell (first + m)) x) errors-before errors
+  pub thicknesses-are : Span 0 first n (λ m x. betterThickness (sumAt errors-before cell (first + m)) (getD errors-before (apart + first + m) 0) t x) thicknesses-before thicknesses
 
--- what is read, n entries from `from` on, lies before what is written, those from `to` on, and that in sheets of these lengths
-unfoldable pub fits : ℕ → ℕ → ℕ → ℕ → ℕ → Bool
-fits from to n errors thicknesses = leb (from + n) to && (leb (to + n) errors && leb (to + n) thicknesses)
+-- the n counts from `first` on have entries in both parts, and what is read of all counts lies before what is written
+pub record Placed (apart first n : ℕ) (errors thicknesses : List ℕ) : Type 0 where
+  pub before : length thicknesses ≤ apart
+  pub errors-long : apart + length thicknesses ≤ length errors
+  pub inside : first + n ≤ length thicknesses
 
--- the places of n counts lie so in two sheets
-pub record Placed (from to n : ℕ) (errors thicknesses : List ℕ) : Type 0 where
-  pub apart : from + n ≤ to
-  pub errors-long : to + n ≤ length errors
-  pub thicknesses-long : to + n ≤ length thicknesses
-
--- the layer is put on where that is so, and else both sheets are as they were
-pub record PutAll (from to cell t n : ℕ) (errors-before thicknesses-before errors thicknesses : List ℕ) : Type 0 where
-  pub put : fits from to n (length errors-before) (length thicknesses-before) ≡ true → PutOn from to cell t n errors-before thicknesses-before errors thicknesses
-  pub not-put : fits from to n (length errors-before) (length thicknesses-before) ≡ false → (errors ≡ errors-before) × (thicknesses ≡ thicknesses-before)
+-- the layer is put on the sequences of all counts of the thickness sheet's part, and nothing is done where the error sheet's part has not twice
+-- as many entries
+pub record PutAll (cell t : ℕ) (errors-before thicknesses-before errors thicknesses : List ℕ) : Type 0 where
+  pub put : length thicknesses-before ≤ length errors-before / 2
+      → PutOn (length errors-before - length thicknesses-before) 0 cell t (length thicknesses-before) errors-before thicknesses-before errors thicknesses
+  pub not-put : length errors-before / 2 < length thicknesses-before → (errors ≡ errors-before) × (thicknesses ≡ thicknesses-before)

@@ -1,10 +1,10 @@
 -- `relax` meets its contract: the layer is put on the sequences of the counts that the row where it starts can have, and for no other count
 -- is there anything to do (`Relaxing`). Assumes nothing.
 use Prim.Native.Nat.{_+_, _≤_}
-use mathlib.Core.Path.{ap}
+use mathlib.Core.Path.{refl, ap}
 use native.Mathlib.Omega.{arith}
 use borrow.Author.Needs.{needs}
-use Rattle.plan.proofs.Relaxing.{Relaxing, first-few, first-end, relaxed}
+use Rattle.plan.proofs.Relaxing.{Relaxing, first-few, first-end, from-before, to-in, relaxed}
 use Rattle.plan.proofs.relax.Statement.{statement}
 use Rattle.plan.proofs.relax.Tie as tie
 
@@ -31,11 +31,6 @@ module _ (c : tie.After-end-count) where
     cell-is = c .before .layer-cell .ensures;
   }
 
-whole : tie.Need-returns
-whole c =
-    let p = c .before .before .before .before in
-    relaxed (found (p .before .before .before)) (p .put-all .ensures)
-
 pub relax-spec : {M : Type 1} → statement M
 relax-spec =
     tie.close
@@ -47,11 +42,16 @@ relax-spec =
     (λ c κs. let s = c .before .before .before .before .before in (s .pre .0 .sound, (omega (arith, s .pre .1 .0 .row), s .pre .1 .1 .0 .thin)))
     (λ c κs. let s = c .before .before .before .before .before .before in (s .pre .0 .sound, omega (arith, s .pre .1 .0 .row, s .pre .1 .1 .0 .thick, s .pre .1 .1 .0 .above)))
     (λ c. first-end (found c))
-    (λ c. let e = c .before .before in omega (arith, e .before .before .before .entry-of .ensures .1, s e .pre .0 .sound .few-entries))
-    (λ c. let e = c .before .before in omega (arith, e .before .before .entry-of2 .ensures .1, s e .pre .0 .sound .few-entries))
+    (λ c. omega (arith, to-in (found c), s c .pre .0 .sound .few-entries))
+    (λ c. omega (arith, c .before .before .before .entry-of .ensures .1, s c .pre .0 .sound .few-entries))
+    (λ c. omega (arith, from-before (found c)))
+    (λ c. omega (arith, from-before (found c)))
+    (λ c. omega (arith, to-in (found c), s c .pre .1 .0 .errors-whole))
+    (λ c. omega arith)
+    (λ c. omega arith)
+    (λ c. omega (arith, to-in (found (c .before)), s (c .before) .pre .1 .0 .thicknesses-whole))
     (λ c. let e = c .before .before in omega (arith, s e .pre .1 .1 .0 .thin, s e .pre .0 .sound .thick))
-    (λ c. let e = c .before .before in omega (arith, e .end-count .ensures .0, s e .pre .0 .sound .few-counts))
     (λ c κs. search needs)
-    (λ c. whole c .errors-are .long)
-    (λ c. whole c .thicknesses-are .long)
-    whole)
+    (λ c. search needs)
+    (λ c. search needs)
+    (λ c. let p = c .before .before .before .before in relaxed (found (p .before .before .before)) _ refl _ _ (p .put-all .ensures)))

@@ -1,36 +1,32 @@
--- `put_all` meets its contract: the layer is put on where its places lie in the sheets. Assumes nothing.
-use mathlib.Core.Path.{_≡_, refl, sym, _∙_}
-use mathlib.Core.Bool.{true, false}
+-- `put_all` meets its contract: half of the error sheet's part has room for what is read, and the other half for what is written.
+-- Assumes nothing.
+use mathlib.Core.Path.{refl}
 use mathlib.Core.List.{List}
-use Prim.Native.Nat.{ℕ}
+use Prim.Native.Nat.{ℕ, _-_, _/_, _≤_, _<_}
 use native.Mathlib.Omega.{arith}
 use borrow.Author.Needs.{needs}
 use lib.ListN.{length}
-use Rattle.putting.specs.Putting.{fits, PutOn, PutAll}
-use Rattle.putting.proofs.Putting.{placed-yes}
+use Rattle.putting.specs.Putting.{Placed, PutOn, PutAll}
 use Rattle.putting.proofs.put_all.Statement.{statement}
 use Rattle.putting.proofs.put_all.Tie as tie
 
-module _ {from to cell t n : ℕ} {E F : List ℕ} where
-  there : {G H : List ℕ} → fits from to n (length E) (length F) ≡ true → PutOn from to cell t n E F G H → PutAll from to cell t n E F G H
-  there e p = record { put = λ f. p; not-put = λ f. absurd (let z : _≡_ {A = ℕ} 0 1 = cc in omega arith) }
+placed : {E F : List ℕ} → length F ≤ length E / 2 → Placed (length E - length F) 0 (length F) E F
+placed l = record { before = omega arith; errors-long = omega arith; inside = omega arith }
 
-  elsewhere : fits from to n (length E) (length F) ≡ false → PutAll from to cell t n E F E F
-  elsewhere e = record { put = λ f. absurd (let z : _≡_ {A = ℕ} 0 1 = cc in omega arith); not-put = λ f. (refl, refl) }
+module _ {cell t : ℕ} {E F : List ℕ} where
+  there : {G H : List ℕ} → length F ≤ length E / 2 → PutOn (length E - length F) 0 cell t (length F) E F G H → PutAll cell t E F G H
+  there l p = record { put = λ u. p; not-put = λ u. absurd (omega arith) }
 
-returns : tie.Need-returns
-returns c =
-    let p = c .before .before .before .before in
-    let i = p .before .before .before in
-    there (sym (i .before .has-room .ensures) ∙ i .if1 .taken) (p .put-many .ensures)
+  elsewhere : length E / 2 < length F → PutAll cell t E F E F
+  elsewhere l = record { put = λ u. absurd (omega arith); not-put = λ u. (refl, refl) }
 
 pub put-all-spec : {M : Type 1} → statement M
 put-all-spec =
     tie.close
     (tie.spec
-    (λ c κs. search needs)
-    (λ c κs. let i = c .before .before in placed-yes _ _ _ _ _ (sym (i .before .has-room .ensures) ∙ i .if1 .taken))
+    (λ c. omega arith)
+    (λ c κs. placed (omega arith))
     (λ c. search needs)
     (λ c. search needs)
-    returns
-    (λ c. elsewhere (sym (c .before .has-room .ensures) ∙ c .if1 .left)))
+    (λ c. there (omega arith) (c .before .before .before .before .put-many .ensures))
+    (λ c. elsewhere (omega arith)))

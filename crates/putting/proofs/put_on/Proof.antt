@@ -8,7 +8,7 @@ use Rattle.putting.proofs.put_on.Tie as tie
 returns : tie.Need-returns
 returns c =
     let s = c .before .before .before .before .before .before in
-    put-less _ _ _ _ _ _ _ (c .before .before .sum-or-none .ensures) (c .if1 .taken) (omega (arith, s .pre .errors-long)) (omega (arith, s .pre .thicknesses-long))
+    put-less _ _ _ _ _ _ _ (c .before .before .sum-or-none .ensures) (c .if1 .taken) (omega (arith, s .pre .errors-long, s .pre .inside)) (omega (arith, s .pre .inside))
 
 returns-2 : tie.Need-returns-2
 returns-2 c = put-keep _ _ _ _ _ _ _ (c .before .before .sum-or-none .ensures) (c .if1 .left)
@@ -20,6 +20,7 @@ put-on-spec =
     (λ c. search needs)
     (λ c. search needs)
     (λ c κs. search needs)
+    (λ c. search needs)
     (λ c. search needs)
     (λ c. search needs)
     (λ c. search needs)
