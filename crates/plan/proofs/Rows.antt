@@ -11,7 +11,7 @@ use native.Mathlib.Omega.{arith}
 use lib.Arith.{digits-lt}
 use borrow.Author.Tests.{le-leb}
 use lib.Dec.{leb}
-use lib.ListN.{length, set}
+use lib.ListN.{length, getD, set}
 use Rattle.lists.specs.Best.{Best, nothing, found, value, place}
 use Rattle.lists.specs.Rewrite.{Span}
 use Rattle.lists.proofs.Spans.{span-none, span-set, span-rest, span-as, span-again, span-self, span-row, span-at, span-is, span-end}
@@ -25,7 +25,7 @@ use Rattle.sequence.specs.Sheets.{mark, errorEntry, thicknessEntry}
 use Rattle.sequence.proofs.BestTo.{none-start, none-apart, none-yet, none-last, whole-value, whole-place}
 use Rattle.sequence.proofs.Bounds.{least-low}
 use Rattle.sequence.proofs.Layers.{start-in, start-high}
-use Rattle.sheets.proofs.Places.{entries-is}
+use Rattle.sheets.proofs.Places.{entries-is, row-in}
 use Rattle.plan.specs.Planning.{Ready, planRules, tableRules, plannedErrors, plannedThicknesses}
 use Rattle.plan.specs.Rows.{errorTo, thicknessTo, RowTo, Under, Usable, Permitted, SheetTo}
 
@@ -111,20 +111,19 @@ module _ (s : Settings) (bound : ℕ) (table : List ℕ) (ready : Ready s table)
     thicknesses-are = span-as (r .thicknesses-are) _ (λ m l. ap place (sym (e m)));
   }
 
-  -- a row that was cleared
-  module _ (q : ℕ) {E₀ F₀ E F : List ℕ} (none-left : Span 0 (rowStart (s .counts) q) (s .counts + 1) (λ m x. missing) E₀ E)
-      (zero-left : Span 0 (rowStart (s .counts) q) (s .counts + 1) (λ m x. 0) F₀ F) where
-    pub row-high : s .tmax ≤ q → RowTo s p q 0 (s .counts + 1) E₀ F₀ E F
-    unfolding errorTo thicknessTo
-    row-high l = record { errors-are = span-as none-left _ (λ m u. go m); thicknesses-are = span-as zero-left _ (λ m u. sym (none-last p (atRow (s .tmax) q) m)) }
+  -- a row of the error sheet that was cleared
+  module _ (q : ℕ) {E₀ E : List ℕ} (none-left : Span 0 (rowStart (s .counts) q) (s .counts + 1) (λ m x. missing) E₀ E) where
+    pub row-high : s .tmax ≤ q → Span 0 (rowStart (s .counts) q) (s .counts + 1) (λ m x. errorTo s p q 0 m) E₀ E
+    unfolding errorTo
+    row-high l = span-as none-left _ (λ m u. go m)
       where
         go : (m : ℕ) → missing ≡ mark (value (bestTo p m (atRow (s .tmax) q) 0))
         go zero = rw (above-start q l)
         go (suc m) = rw (none-yet p (atRow (s .tmax) q) (suc m) (omega arith))
 
-    pub row-low : (at : ℕ) → at ≡ rowStart (s .counts) q → at < length E → q < s .tmax → RowTo s p q 0 (s .counts + 1) E₀ F₀ (set E at 0) F
-    unfolding errorTo thicknessTo
-    row-low at e i l = record { errors-are = span-again none-left rest; thicknesses-are = span-as zero-left _ (λ m u. sym (none-last p (atRow (s .tmax) q) m)) }
+    pub row-low : (at : ℕ) → at ≡ rowStart (s .counts) q → at < length E → q < s .tmax → Span 0 (rowStart (s .counts) q) (s .counts + 1) (λ m x. errorTo s p q 0 m) E₀ (set E at 0)
+    unfolding errorTo
+    row-low at e i l = span-again none-left rest
       where
         first : Span 0 (rowStart (s .counts) q) 1 (λ m x. mark (value (bestTo p m (atRow (s .tmax) q) 0))) E (set E at 0)
         first = span-set (span-none (rowStart (s .counts) q) _ E) at 0 (omega arith) i (rw (start-low q l))
@@ -133,6 +132,12 @@ module _ (s : Settings) (bound : ℕ) (table : List ℕ) (ready : Ready s table)
         rest =
             span-rest (s .counts + 1) first (omega arith)
             (λ m a b. ap (λ (x : Best). mark (value x)) (none-yet p (atRow (s .tmax) q) m a) ∙ sym (first .above (rowStart (s .counts) q + m) (omega arith) ∙ none-left .inside m b))
+
+  -- and one of the thickness sheet: both are those by no layer
+  pub row-begun : {q : ℕ} {E₀ E F : List ℕ} → Span 0 (rowStart (s .counts) q) (s .counts + 1) (λ m x. errorTo s p q 0 m) E₀ E
+      → Span 0 (rowStart (s .counts) q) (s .counts + 1) (λ m x. 0) F F → RowTo s p q 0 (s .counts + 1) E₀ F E F
+  unfolding thicknessTo
+  row-begun {q} e f = record { errors-are = e; thicknesses-are = span-as f _ (λ m u. sym (none-last p (atRow (s .tmax) q) m)) }
 
   -- the rows under a row stay while it is being filled
   pub under-row : {q k n : ℕ} {E₀ F₀ E F : List ℕ} → Under s p q E₀ F₀ → RowTo s p q k n E₀ F₀ E F → Under s p q E F
@@ -169,12 +174,24 @@ module _ (s : Settings) (bound : ℕ) (table : List ℕ) (ready : Ready s table)
         (span-as (r .thicknesses-are) _ (λ m u. whole-place p m (atRow (s .tmax) q) (s .tmax) all-thicknesses));
   }
 
-  pub sheet-whole : {E₀ F₀ E F : List ℕ} (q : ℕ) → SheetTo s p q E₀ F₀ E F → q ≡ s .rows + 1
-      → (E ≡ plannedErrors (s .height) (s .members) p E₀) × (F ≡ plannedThicknesses (s .height) (s .members) p F₀)
-  unfolding plannedErrors plannedThicknesses errorEntry thicknessEntry
-  sheet-whole {E₀} {F₀} {E} {F} q t e =
-      let w = ready .sound .counts-are in
-      let g = ready .sound .greatest in
-      let n : rowStart (s .counts) q ≡ entries (s .height) (s .members) =
-      ap (λ (x : ℕ). x * (s .counts + 1)) e ∙ sym (ready .sound .entries-are) ∙ entries-is s (ready .sound) in
-      (rw (← w, ← g) (span-is _ _ (t .errors-are) (omega arith) (omega arith)), rw (← w, ← g) (span-is _ _ (t .thicknesses-are) (omega arith) (omega arith)))
+  -- over a thickness sheet F₁ that was cleared
+  module _ {F₀ F₁ : List ℕ} (cleared : Span 0 0 (s .entries) (λ m x. 0) F₀ F₁) where
+    pub sheet-cleared : {q : ℕ} {E₀ E F : List ℕ} → q ≤ s .rows → SheetTo s p q E₀ F₁ E F → Span 0 (rowStart (s .counts) q) (s .counts + 1) (λ m x. 0) F F
+    sheet-cleared {q} {F = F} l t = record { long = refl; inside = λ m h. go m (omega arith); below = λ i h. refl; above = λ i h. refl }
+      where
+        go : (m : ℕ) → m ≤ s .counts → getD F (rowStart (s .counts) q + m) 0 ≡ 0
+        go m h =
+            let i = entryIndex (s .counts) q m in
+            let e : i ≡ 0 + i = omega arith in
+            t .thicknesses-are .above i (omega arith) ∙ ap (λ (j : ℕ). getD F₁ j 0) e ∙ cleared .inside i (row-in s (ready .sound) q m l h)
+
+    pub sheet-whole : {E₀ E F : List ℕ} (q : ℕ) → SheetTo s p q E₀ F₁ E F → q ≡ s .rows + 1
+        → (E ≡ plannedErrors (s .height) (s .members) p E₀) × (F ≡ plannedThicknesses (s .height) (s .members) p F₀)
+    unfolding plannedErrors plannedThicknesses errorEntry thicknessEntry
+    sheet-whole {E₀} {E} {F} q t e =
+        let w = ready .sound .counts-are in
+        let g = ready .sound .greatest in
+        let k : rowStart (s .counts) q ≡ s .entries = ap (λ (x : ℕ). x * (s .counts + 1)) e ∙ sym (ready .sound .entries-are) in
+        let n : rowStart (s .counts) q ≡ entries (s .height) (s .members) = k ∙ entries-is s (ready .sound) in
+        let f = span-again (span-end (rowStart (s .counts) q) cleared (omega arith) (omega arith)) (t .thicknesses-are) in
+        (rw (← w, ← g) (span-is _ _ (t .errors-are) (omega arith) (omega arith)), rw (← w, ← g) (span-is _ _ f (omega arith) (omega arith)))

@@ -14,7 +14,7 @@ ghost use Rattle.sheets.specs.Entries.{leastEnd};
 ghost use Rattle.sheets.specs.Least.{IsLeast};
 ghost use Rattle.plan.specs.Plan.{planRest, planChecks, planning, sheetsIn};
 ghost use Rattle.plan.specs.Planning.{Ready, tableRules, plannedErrors, plannedThicknesses, plannedList};
-ghost use Rattle.plan.specs.Rows.{RowTo, Under, Usable, Permitted, Planned};
+ghost use Rattle.plan.specs.Rows.{errorTo, RowTo, Under, Usable, Permitted, Planned};
 use plate::head::Head;
 use plate::refusal::Answer;
 use plate::refusal::Reason;
@@ -95,8 +95,7 @@ fn first_count(s: Settings, q: usize) -> usize
     layers_in(s, q - s.tmax, s.tmax)
 }
 
-// Row q of an error sheet with no sequence at all. Each sheet is cleared by a loop of its own, which the compiler makes one fill; over both in
-// one loop it would ask in every row whether they overlap.
+// Row q of an error sheet with no sequence at all.
 fn clear_errors(s: Settings, q: usize, errors: &mut [u64])
     requires { ⌜ Sound s ⌝ }
     requires { ⌜ (q ≤ s .rows) × (s .entries ≤ length (now errors)) ⌝ }
@@ -110,35 +109,26 @@ fn clear_errors(s: Settings, q: usize, errors: &mut [u64])
     }
 }
 
-// Row q of a thickness sheet with no sequence at all.
-fn clear_thicknesses(s: Settings, q: usize, thicknesses: &mut [u8])
-    requires { ⌜ Sound s ⌝ }
-    requires { ⌜ (q ≤ s .rows) × (s .entries ≤ length (now thicknesses)) ⌝ }
-    ensures { λ _. ⌜ Span 0 (rowStart (s .counts) q) (s .counts + 1) (λ m x. 0) (now (thicknesses .entry)) (now (thicknesses .exit)) ⌝ }
+// A thickness sheet with no sequence at all. It is cleared whole: a row of it is a few bytes, and clearing them costs hardly less than calling
+// what clears. The error sheet, eight times as large, is cleared row by row, so that a row is still at hand when it is filled.
+fn clear_thicknesses(s: Settings, thicknesses: &mut [u8])
+    requires { ⌜ s .entries ≤ length (now thicknesses) ⌝ }
+    ensures { λ _. ⌜ Span 0 0 (s .entries) (λ m x. 0) (now (thicknesses .entry)) (now (thicknesses .exit)) ⌝ }
 {
-    let from = entry_of(s, q, 0);
-    let mut m = 0;
-    while m <= s.counts {
-        thicknesses[from + m] = 0;
-        m += 1;
+    let mut i = 0;
+    while i < s.entries {
+        thicknesses[i] = 0;
+        i += 1;
     }
 }
 
-// Row q by no layer: error 0 at count 0 of a start height, and none elsewhere.
-fn start_row(
-    table: &[u32],
-    s: Settings,
-    bound: u32,
-    q: usize,
-    errors: &mut [u64],
-    thicknesses: &mut [u8],
-)
+// The errors of row q by no layer: 0 at count 0 of a start height, and none elsewhere.
+fn start_row(table: &[u32], s: Settings, bound: u32, q: usize, errors: &mut [u64])
     requires { ⌜ Ready s (now table) ⌝ }
-    requires { ⌜ (q ≤ s .rows) × (s .entries ≤ length (now errors)) × (s .entries ≤ length (now thicknesses)) ⌝ }
-    ensures { λ _. ⌜ RowTo s (tableRules s bound (now (table .entry))) q 0 (s .counts + 1) (now (errors .entry)) (now (thicknesses .entry)) (now (errors .exit)) (now (thicknesses .exit)) ⌝ }
+    requires { ⌜ (q ≤ s .rows) × (s .entries ≤ length (now errors)) ⌝ }
+    ensures { λ _. ⌜ Span 0 (rowStart (s .counts) q) (s .counts + 1) (λ m x. errorTo s (tableRules s bound (now (table .entry))) q 0 m) (now (errors .entry)) (now (errors .exit)) ⌝ }
 {
     clear_errors(s, q, errors);
-    clear_thicknesses(s, q, thicknesses);
     let at = entry_of(s, q, 0);
     if q < s.tmax {
         errors[at] = 0;
@@ -200,7 +190,7 @@ fn step_row(
     }
 }
 
-// Fills row q of both sheets, whose rows under it are filled: thickness by thickness.
+// Fills row q of both sheets, whose rows under it are filled, and whose thicknesses are cleared: thickness by thickness.
 fn fill_row(
     table: &[u32],
     s: Settings,
@@ -211,9 +201,10 @@ fn fill_row(
 )
     requires { ⌜ Ready s (now table) ⌝ }
     requires { ⌜ Under s (tableRules s bound (now table)) q (now errors) (now thicknesses) ⌝ }
+    requires { ⌜ Span 0 (rowStart (s .counts) q) (s .counts + 1) (λ m x. 0) (now thicknesses) (now thicknesses) ⌝ }
     ensures { λ _. ⌜ RowTo s (tableRules s bound (now (table .entry))) q (s .tmax) (s .counts + 1) (now (errors .entry)) (now (thicknesses .entry)) (now (errors .exit)) (now (thicknesses .exit)) ⌝ }
 {
-    start_row(table, s, bound, q, errors, thicknesses);
+    start_row(table, s, bound, q, errors);
     let first = first_count(s, q);
     let mut t = 0;
     while t < s.tmax {
@@ -229,6 +220,7 @@ fn fill_sheets(table: &[u32], s: Settings, bound: u32, errors: &mut [u64], thick
     ensures { λ _. ⌜ now (errors .exit) ≡ plannedErrors (s .height) (s .members) (tableRules s bound (now (table .entry))) (now (errors .entry)) ⌝ }
     ensures { λ _. ⌜ now (thicknesses .exit) ≡ plannedThicknesses (s .height) (s .members) (tableRules s bound (now (table .entry))) (now (thicknesses .entry)) ⌝ }
 {
+    clear_thicknesses(s, thicknesses);
     let mut q = 0;
     while q <= s.rows {
         fill_row(table, s, bound, q, errors, thicknesses);

@@ -3,7 +3,7 @@ use Prim.Native.Nat.{_+_, _-_, _≤_}
 use native.Mathlib.Omega.{arith}
 use Rattle.plan.specs.Planning.{tableRules}
 use Rattle.plan.specs.Rows.{RowTo}
-use Rattle.plan.proofs.Rows.{row-self, row-again, row-as, under-row}
+use Rattle.plan.proofs.Rows.{row-begun, row-self, row-again, row-as, under-row}
 use Rattle.plan.proofs.fill_row.Statement.{statement}
 use Rattle.plan.proofs.fill_row.Tie as tie
 
@@ -16,14 +16,17 @@ abbrev μ-loop : tie.MeasureT-loop
 
 module _ (l : tie.At-loop Inv-loop μ-loop) where
   abbrev r : tie.After-start-row Inv-loop μ-loop
-  r = l .before .before .before .before .before .before
+  r = l .before .before .before .before
 
   abbrev s : tie.Start Inv-loop μ-loop
-  s = r .before .before .before .before .before .before
+  s = r .before .before .before .before .before
+
+  begun : RowTo (s .args .s) (tableRules (s .args .s) (s .args .bound) (s .args .table .now)) (s .args .q) 0 (s .args .s .counts + 1) (s .args .errors .now) (s .args .thicknesses .now) (r .start-row .last .1 .1 .1 .1 .0) (s .args .thicknesses .now)
+  begun = row-begun (s .args .s) (s .args .bound) (s .args .table .now) (s .pre .0) (r .start-row .ensures) (s .pre .1 .1)
 
   -- since the row was begun, and since before that
   so-far : RowTo (s .args .s) (tableRules (s .args .s) (s .args .bound) (s .args .table .now)) (s .args .q) (l .loop .t) (s .args .s .counts + 1) (s .args .errors .now) (s .args .thicknesses .now) (l .loop .errors) (l .loop .thicknesses)
-  so-far = row-again (s .args .s) (s .args .bound) (s .args .table .now) (s .pre .0) (r .start-row .ensures) (l .loop .inv .1)
+  so-far = row-again (s .args .s) (s .args .bound) (s .args .table .now) (s .pre .0) begun (l .loop .inv .1)
 
 step-row-requires : tie.Need-step-row-requires Inv-loop μ-loop
 step-row-requires c κs =
@@ -31,7 +34,7 @@ step-row-requires c κs =
     let a = s l .args in (
       s l .pre .0,
       (
-        under-row (a .s) (a .bound) (a .table .now) (s l .pre .0) (s l .pre .1) (so-far l),
+        under-row (a .s) (a .bound) (a .table .now) (s l .pre .0) (s l .pre .1 .0) (so-far l),
         ((omega arith, omega arith, l .before .first-count .ensures), row-as (a .s) _ _ (s l .pre .0) _ (row-self (a .s) _ _ (s l .pre .0) (l .loop .inv .1)) (omega arith) (omega arith)),
       ),
     )
@@ -53,9 +56,9 @@ fill-row-spec =
     (tie.spec
     Inv-loop
     μ-loop
-    (λ c κs. let s = c .before .before .before .before .before in (s .pre .0, (s .pre .1 .row, s .pre .1 .errors-whole, s .pre .1 .thicknesses-whole)))
-    (λ c κs. let s = c .before .before .before .before .before .before .before .before .before .before in (s .pre .0 .sound, s .pre .1 .row))
-    (λ c. let r = c .before .before .before .before .before in let s = r .before .before .before .before .before .before in (omega arith, row-self (s .args .s) _ _ (s .pre .0) (r .start-row .ensures)))
+    (λ c κs. let s = c .before .before .before .before in (s .pre .0, (s .pre .1 .0 .row, s .pre .1 .0 .errors-whole)))
+    (λ c κs. let s = c .before .before .before .before .before .before .before in (s .pre .0 .sound, s .pre .1 .0 .row))
+    (λ c. let r = c .before .before .before in let s = r .before .before .before .before .before in (omega arith, row-self (s .args .s) _ _ (s .pre .0) (row-begun (s .args .s) _ _ (s .pre .0) (r .start-row .ensures) (s .pre .1 .1))))
     (λ c. omega arith)
     step-row-requires
     (λ c. omega arith)
