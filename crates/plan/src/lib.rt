@@ -26,7 +26,6 @@ use sheets::Least;
 use sheets::NONE;
 use sheets::is_layer;
 use sheets::least_end;
-use table::cell_of;
 use table::check_table;
 
 // Where the entry of the row q and the count m stands. It is reckoned here, where settings are sound, and not by `sheets`, which asks nothing and
@@ -39,19 +38,19 @@ fn entry_of(s: Settings, q: usize, m: usize) -> usize
     q * (s.counts + 1) + m
 }
 
-// The cell of the layer from row `start` of thickness t.
+// The cell of the layer from row `start` of thickness t. A table in order has it, so nothing is asked, as `cell_of` asks of any table.
 fn layer_cell(table: &[u32], s: Settings, start: usize, t: usize) -> u32
-    requires { ⌜ Sound s ⌝ }
-    requires { ⌜ (start ≤ s .rows) × (t ≤ s .tmax) ⌝ }
+    requires { ⌜ Ready s (now table) ⌝ }
+    requires { ⌜ (start < s .rows) × (1 ≤ t) × (t ≤ s .tmax) ⌝ }
     ensures { λ r. ⌜ r ≡ cellFrom (s .members) (now (table .entry)) (atRow (s .tmax) start) t ⌝ }
 {
-    cell_of(table, s.tmax as u32, start as u32, t as u32)
+    table[start * s.tmax + (t - 1)]
 }
 
 // Whether a layer of thickness t that ends at row q starts at a row, and is permitted there.
 fn may_use(table: &[u32], s: Settings, bound: u32, q: usize, t: usize) -> bool
-    requires { ⌜ Sound s ⌝ }
-    requires { ⌜ (q ≤ s .rows) × (t ≤ s .tmax) ⌝ }
+    requires { ⌜ Ready s (now table) ⌝ }
+    requires { ⌜ (q ≤ s .rows) × (1 ≤ t) × (t ≤ s .tmax) ⌝ }
     ensures { λ r. ⌜ Usable r s (tableRules s bound (now (table .entry))) q t ⌝ }
 {
     if !is_layer(s.height as u16, s.members, s.tmax as u16, q as u32, t) {

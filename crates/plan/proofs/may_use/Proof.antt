@@ -54,18 +54,18 @@ module _ (c : tie.Else1) where
   in-shape = not-false _ (c .if1 .left)
 
   starts-above : s .args .t ≤ s .args .q
-  starts-above = above (s .args .s) (s .pre .0) _ _ _ (i .is-layer .ensures) in-shape
+  starts-above = above (s .args .s) (s .pre .0 .sound) _ _ _ (i .is-layer .ensures) in-shape
 
 returns : tie.Need-returns
 returns c =
     let i = c .before in
     let s = i .before .before .before .before in
-    forbidden (s .args .s) (s .pre .0) _ _ _ (i .is-layer .ensures) _ _ (not-true _ (c .if1 .taken))
+    forbidden (s .args .s) (s .pre .0 .sound) _ _ _ (i .is-layer .ensures) _ _ (not-true _ (c .if1 .taken))
 
 returns-2 : tie.Need-returns-2
 returns-2 c =
     let e = c .before in
-    within (s e .args .s) (s e .pre .0) _ _ _ (i e .is-layer .ensures) _ _ _ (in-shape e) (c .layer-cell .ensures)
+    within (s e .args .s) (s e .pre .0 .sound) _ _ _ (i e .is-layer .ensures) _ _ _ (in-shape e) (c .layer-cell .ensures)
 
 pub may-use-spec : {M : Type 1} → statement M
 may-use-spec =
@@ -77,5 +77,5 @@ may-use-spec =
     (λ c κs. search needs)
     returns
     starts-above
-    (λ c κs. (s c .pre .0, (omega (arith, s c .pre .1 .0), s c .pre .1 .1)))
+    (λ c κs. (s c .pre .0, (omega (arith, starts-above c), s c .pre .1 .1, s c .pre .1 .2)))
     returns-2)

@@ -39,7 +39,7 @@ relax-spec =
     (λ c κs. let s = c .before .before .before in (s .pre .0 .sound, (omega (arith, s .pre .1 .0 .row), first-in s)))
     (λ c κs. let s = c .before .before .before .before in (s .pre .0 .sound, (s .pre .1 .0 .row, first-in s)))
     (λ c. let s = c .before .before .before .before .before in omega (arith, c .entry-of2 .ensures .1, s .pre .0 .sound .few-entries))
-    (λ c κs. let s = c .before .before .before .before .before in (s .pre .0 .sound, (omega (arith, s .pre .1 .0 .row), s .pre .1 .1 .0 .thin)))
+    (λ c κs. let s = c .before .before .before .before .before in (s .pre .0, (omega (arith, s .pre .1 .0 .row, s .pre .1 .1 .0 .thick, s .pre .1 .1 .0 .above), s .pre .1 .1 .0 .thick, s .pre .1 .1 .0 .thin)))
     (λ c κs. let s = c .before .before .before .before .before .before in (s .pre .0 .sound, omega (arith, s .pre .1 .0 .row, s .pre .1 .1 .0 .thick, s .pre .1 .1 .0 .above)))
     (λ c. first-end (found c))
     (λ c. omega (arith, to-in (found c), s c .pre .0 .sound .few-entries))

@@ -22,7 +22,7 @@ pub step-row-spec : {M : Type 1} → statement M
 step-row-spec =
     tie.close
     (tie.spec
-    (λ c κs. let s = c .before .before .before in (s .pre .0 .sound, (s .pre .1 .0 .row, s .pre .1 .1 .0 .1)))
+    (λ c κs. let s = c .before .before .before in (s .pre .0, (s .pre .1 .0 .row, s .pre .1 .1 .0 .0, s .pre .1 .1 .0 .1)))
     relax-requires
     (λ c. search needs)
     (λ c. search needs)
