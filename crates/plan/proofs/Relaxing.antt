@@ -7,7 +7,7 @@ use mathlib.Core.Bool.{true, cond}
 use mathlib.Core.List.{List, _++_}
 use mathlib.Core.Logic.{_⊎_, inl, inr, ⊎-elim}
 use mathlib.Core.Option.{Option, none, some}
-use native.Mathlib.Nat.{mul-le-mul-left, mul-le-mul-right}
+use native.Mathlib.Nat.{add-mul, mul-le-mul-left, mul-le-mul-right}
 use native.Mathlib.Decide.{decLt}
 use native.Mathlib.Omega.{arith}
 use borrow.Author.Tests.{lt-ltb, le-ltb}
@@ -51,6 +51,13 @@ sum-mark (some e) cell f u = simp (le-ltb (missing - cell) e (omega (arith, f e 
 pub first-few : (s : Settings) → Sound s → (q first : ℕ) → q ≤ s .rows → first * s .tmax ≤ q - s .tmax → first ≤ s .counts
 first-few s k q first l u =
     rw (k .counts-are) (counts-reach (s .height) (s .members) (k .low) (omega (arith, k .greatest, k .thin, k .order)) first (rw (← k .greatest) (omega (arith, k .rows-are))))
+
+-- the entry of a count t rows under row q
+pub rows-under : (w q t first : ℕ) → t ≤ q → t * w + ((q - t) * w + first) ≡ q * w + first
+rows-under w q t first l =
+    let e : q - t + t ≡ q = omega arith in
+    let d : q * w ≡ (q - t) * w + t * w = ap (λ (n : ℕ). n * w) (sym e) ∙ add-mul (q - t) t w in
+    omega arith
 
 -- what `relax` has found when it puts the layer on
 pub record Relaxing (table : List ℕ) (bound q t : ℕ) (E F : List ℕ) (first end from to cell : ℕ) (s : Settings) : Type 0 where

@@ -134,8 +134,8 @@ fn start_row(table: &[u32], s: Settings, bound: u32, q: usize, errors: &mut [u64
     }
 }
 
-// One thickness more in row q: a last layer of thickness t, permitted where it starts, for every count that its start row can have. Under
-// `first` there is none.
+// One thickness more in row q: a last layer of thickness t, permitted where it starts, t rows under q, for every count that its start row can
+// have. Under `first` there is none.
 fn relax(
     table: &[u32],
     s: Settings,
@@ -154,8 +154,9 @@ fn relax(
     ensures { λ _. ⌜ RowTo s (tableRules s bound (now (table .entry))) q t (s .counts + 1) (now (errors .entry)) (now (thicknesses .entry)) (now (errors .exit)) (now (thicknesses .exit)) ⌝ }
 {
     let start = q - t;
-    let from = entry_of(s, start, first);
-    let to = entry_of(s, q, first) + 1;
+    let at = entry_of(s, q, first);
+    let from = at - t * (s.counts + 1);
+    let to = at + 1;
     let cell = layer_cell(table, s, start, t);
     let end = end_count(s, start);
     let past = to + (end - first);
