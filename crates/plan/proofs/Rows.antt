@@ -22,12 +22,13 @@ use Rattle.plate.specs.declared.settings.Settings.{Settings}
 use Rattle.sequence.specs.Sequence.{Rules}
 use Rattle.sequence.specs.Least.{plus, via, bestTo, least, last}
 use Rattle.sequence.specs.Sheets.{mark, errorEntry, thicknessEntry}
-use Rattle.sequence.proofs.BestTo.{none-start, none-apart, none-yet, none-last, whole-value, whole-place}
+use Rattle.sequence.proofs.BestTo.{kept, none-start, none-apart, none-yet, none-last, whole-value, whole-place}
 use Rattle.sequence.proofs.Bounds.{least-low}
 use Rattle.sequence.proofs.Layers.{start-in, start-high}
 use Rattle.sheets.proofs.Places.{entries-is, row-in}
 use Rattle.plan.specs.Planning.{Ready, planRules, tableRules, plannedErrors, plannedThicknesses}
 use Rattle.plan.specs.Rows.{errorTo, thicknessTo, RowTo, Under, Usable, Permitted, SheetTo}
+use Rattle.plan.proofs.Sums.{via-thin}
 
 -- the row where the last layer starts
 module _ (s : Settings) (bound : ℕ) (table : List ℕ) (ready : Ready s table) where
@@ -103,13 +104,20 @@ module _ (s : Settings) (bound : ℕ) (table : List ℕ) (ready : Ready s table)
   pub row-as : {q k n : ℕ} {E₀ F₀ E F : List ℕ} (j : ℕ) → RowTo s p q k n E₀ F₀ E F → k ≤ j → j ≤ k → RowTo s p q j n E₀ F₀ E F
   row-as {q} {k} {n} j r l u = let e : k ≡ j = omega arith in rw e at r
 
-  pub row-same : {q t n : ℕ} {E F : List ℕ} → RowTo s p q (t - 1) n E F E F
-      → ((m : ℕ) → bestTo p m (atRow (s .tmax) q) t ≡ bestTo p m (atRow (s .tmax) q) (t - 1)) → RowTo s p q t n E F E F
+  pub row-same : {q t n : ℕ} {E₀ F₀ E F : List ℕ} → RowTo s p q (t - 1) n E₀ F₀ E F
+      → ((m : ℕ) → bestTo p m (atRow (s .tmax) q) t ≡ bestTo p m (atRow (s .tmax) q) (t - 1)) → RowTo s p q t n E₀ F₀ E F
   unfolding errorTo thicknessTo
   row-same r e = record {
     errors-are = span-as (r .errors-are) _ (λ m l. ap (λ (b : Best). mark (value b)) (sym (e m)));
     thicknesses-are = span-as (r .thicknesses-are) _ (λ m l. ap place (sym (e m)));
   }
+
+  -- a row by no layer is one by all that are thinner than tmin
+  pub row-thin : {q n : ℕ} {E₀ F₀ E F : List ℕ} (t : ℕ) → t < s .tmin → RowTo s p q 0 n E₀ F₀ E F → RowTo s p q t n E₀ F₀ E F
+  row-thin zero l r = r
+  row-thin {q} (suc t) l r =
+      row-same (row-as (suc t - 1) (row-thin t (omega arith) r) (omega arith) (omega arith))
+      (λ m. kept p (atRow (s .tmax) q) (suc t) m (omega arith) (λ i e. via-thin s bound table ready i (atRow (s .tmax) q) (suc t) l))
 
   -- a row of the error sheet that was cleared
   module _ (q : ℕ) {E₀ E : List ℕ} (none-left : Span 0 (rowStart (s .counts) q) (s .counts + 1) (λ m x. missing) E₀ E) where

@@ -48,8 +48,19 @@ module _ (s : Settings) (bound : ℕ) (table : List ℕ) (ready : Ready s table)
       cell-in r row (omega (arith, shape-from _ _ h t f, shape-to _ _ h t f, allowed-from _ t a, r .greatest, r .rows-are)) (t - 1) (omega (arith, allowed-from _ t a, allowed-tmax _ t a, r .greatest)) in
       omega (arith, ready .small .are (cellIndex (s .tmax) row t) i, cell-read (s .members) (s .tmax) table row h t (r .greatest) refl)
 
+  may-thick : (h t : ℕ) → p .may h t ≡ true → s .tmin ≤ t
+  may-thick h t e = omega (arith, ready .sound .least, tmin-least _ t (shape-allowed _ _ h t (shape-of h t e)) .1)
+
   pub layer-thick : (h t : ℕ) → Layer p h t → s .tmin ≤ t
-  layer-thick h t l = omega (arith, ready .sound .least, tmin-least _ t (shape-allowed _ _ (h - t) t (shape-of (h - t) t (l .allowed))) .1)
+  layer-thick h t l = may-thick (h - t) t (l .allowed)
+
+  -- no layer is thinner than tmin
+  pub via-thin : (m h t : ℕ) → t < s .tmin → via p (λ g. least p m g) h t ≡ none
+  via-thin m h t l = go _ refl
+    where
+      go : (o : Option ℕ) → via p (λ g. least p m g) h t ≡ o → via p (λ g. least p m g) h t ≡ none
+      go none e = e
+      go (some d) e = absurd (omega (arith, may-thick (h - t) t (via-some p (λ g. least p m g) h t d e .1)))
 
   pub sum-most : (m h e : ℕ) → least p m h ≡ some e → e ≤ m * greatestLimit
   sum-most m h e q = least-bound p greatestLimit (λ g t l. cell-small (g - t) t (l .allowed)) m h e q

@@ -190,7 +190,7 @@ fn step_row(
     }
 }
 
-// Fills row q of both sheets, whose rows under it are filled, and whose thicknesses are cleared: thickness by thickness.
+// Fills row q of both sheets, whose rows under it are filled, and whose thicknesses are cleared: thickness by thickness, from tmin on.
 fn fill_row(
     table: &[u32],
     s: Settings,
@@ -206,7 +206,7 @@ fn fill_row(
 {
     start_row(table, s, bound, q, errors);
     let first = first_count(s, q);
-    let mut t = 0;
+    let mut t = s.tmin - 1;
     while t < s.tmax {
         t += 1;
         step_row(table, s, bound, q, t, first, errors, thicknesses);

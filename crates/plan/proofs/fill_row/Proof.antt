@@ -1,9 +1,9 @@
--- `fill_row` meets its contract. The loop's invariant: the row is that by last layers of at most t. Assumes nothing.
+-- `fill_row` meets its contract. The loop's invariant: the row is that by last layers of at most t; none is thinner than tmin. Assumes nothing.
 use Prim.Native.Nat.{_+_, _-_, _≤_}
 use native.Mathlib.Omega.{arith}
 use Rattle.plan.specs.Planning.{tableRules}
 use Rattle.plan.specs.Rows.{RowTo}
-use Rattle.plan.proofs.Rows.{row-begun, row-self, row-again, row-as, under-row}
+use Rattle.plan.proofs.Rows.{row-begun, row-thin, row-self, row-again, row-as, under-row}
 use Rattle.plan.proofs.fill_row.Statement.{statement}
 use Rattle.plan.proofs.fill_row.Tie as tie
 
@@ -16,7 +16,7 @@ abbrev μ-loop : tie.MeasureT-loop
 
 module _ (l : tie.At-loop Inv-loop μ-loop) where
   abbrev r : tie.After-start-row Inv-loop μ-loop
-  r = l .before .before .before .before
+  r = l .before .before .before .before .before
 
   abbrev s : tie.Start Inv-loop μ-loop
   s = r .before .before .before .before .before
@@ -28,6 +28,14 @@ module _ (l : tie.At-loop Inv-loop μ-loop) where
   so-far : RowTo (s .args .s) (tableRules (s .args .s) (s .args .bound) (s .args .table .now)) (s .args .q) (l .loop .t) (s .args .s .counts + 1) (s .args .errors .now) (s .args .thicknesses .now) (l .loop .errors) (l .loop .thicknesses)
   so-far = row-again (s .args .s) (s .args .bound) (s .args .table .now) (s .pre .0) begun (l .loop .inv .1)
 
+loop-holds : tie.Need-loop-holds Inv-loop μ-loop
+loop-holds c =
+    let r = c .before .before .before .before in
+    let s = r .before .before .before .before .before in
+    let k = s .pre .0 .sound in
+    let b = row-begun (s .args .s) (s .args .bound) (s .args .table .now) (s .pre .0) (r .start-row .ensures) (s .pre .1 .1) in
+    (omega (arith, k .order), row-self (s .args .s) _ _ (s .pre .0) (row-thin (s .args .s) _ _ (s .pre .0) (s .args .s .tmin - 1) (omega (arith, k .thin)) b))
+
 step-row-requires : tie.Need-step-row-requires Inv-loop μ-loop
 step-row-requires c κs =
     let l = c .before .before .before .before in
@@ -35,7 +43,7 @@ step-row-requires c κs =
       s l .pre .0,
       (
         under-row (a .s) (a .bound) (a .table .now) (s l .pre .0) (s l .pre .1 .0) (so-far l),
-        ((omega arith, omega arith, l .before .first-count .ensures), row-as (a .s) _ _ (s l .pre .0) _ (row-self (a .s) _ _ (s l .pre .0) (l .loop .inv .1)) (omega arith) (omega arith)),
+        ((omega arith, omega arith, l .before .before .first-count .ensures), row-as (a .s) _ _ (s l .pre .0) _ (row-self (a .s) _ _ (s l .pre .0) (l .loop .inv .1)) (omega arith) (omega arith)),
       ),
     )
 
@@ -58,7 +66,8 @@ fill-row-spec =
     μ-loop
     (λ c κs. let s = c .before .before .before .before in (s .pre .0, (s .pre .1 .0 .row, s .pre .1 .0 .errors-whole)))
     (λ c κs. let s = c .before .before .before .before .before .before .before in (s .pre .0 .sound, s .pre .1 .0 .row))
-    (λ c. let r = c .before .before .before in let s = r .before .before .before .before .before in (omega arith, row-self (s .args .s) _ _ (s .pre .0) (row-begun (s .args .s) _ _ (s .pre .0) (r .start-row .ensures) (s .pre .1 .1))))
+    (λ c. let s = c .before .before .before .before .before .before .before .before .before in omega (arith, s .pre .0 .sound .thin))
+    loop-holds
     (λ c. omega arith)
     step-row-requires
     (λ c. omega arith)
