@@ -109,7 +109,7 @@ fn clear_errors(s: Settings, q: usize, errors: &mut [u64])
 }
 
 // A thickness sheet with no sequence at all. It is cleared whole: a row of it is a few bytes, and clearing them costs hardly less than calling
-// what clears. The error sheet, eight times as large, is cleared row by row, so that a row is still at hand when it is filled.
+// what clears.
 fn clear_thicknesses(s: Settings, thicknesses: &mut [u8])
     requires { ⌜ s .entries ≤ length (now thicknesses) ⌝ }
     ensures { λ _. ⌜ Span 0 0 (s .entries) (λ m x. 0) (now (thicknesses .entry)) (now (thicknesses .exit)) ⌝ }
