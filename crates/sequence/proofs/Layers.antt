@@ -10,7 +10,7 @@ use Rattle.paper.proofs.Thicknesses.{and-true}
 use Rattle.sequence.specs.Sequence.{starts, lowestEnd}
 use Rattle.sequence.specs.Rules.{shapeBy, shape}
 
-and-false : (a b : Bool) → b ≡ false → a && b ≡ false
+pub and-false : (a b : Bool) → b ≡ false → a && b ≡ false
 and-false true b e = e
 and-false false b e = refl
 

@@ -8,7 +8,7 @@ ghost use Rattle.plate.specs.Datum.{rowOf, atRow};
 ghost use Rattle.sequence.specs.Sequence.{starts};
 ghost use Rattle.sheets.specs.Entries.{leastFrom, leastEnd};
 ghost use Rattle.sheets.specs.Least.{IsLeast};
-ghost use Rattle.sheets.specs.Shaped.{Shaped};
+ghost use Rattle.sheets.specs.Shaped.{shapeUnder};
 use plate::settings::is_allowed;
 
 // The entry that stands for none.
@@ -62,7 +62,7 @@ pub fn is_start(tmax: usize, h: usize) -> bool
 // Whether a layer of thickness t that ends at a row has the shape of one: asked by the row, whose height need not be found for each thickness.
 // The numbers are as narrow as settings allow, so that no sum overflows.
 pub fn is_layer(height: u16, members: u32, tmax: u16, row: u32, t: usize) -> bool
-    ensures { λ r. ⌜ Shaped r height members tmax row t ⌝ }
+    ensures { λ r. ⌜ r ≡ shapeUnder height members tmax row t ⌝ }
 {
     if !is_allowed(members, t) {
         return false;

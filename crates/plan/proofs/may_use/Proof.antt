@@ -13,7 +13,7 @@ use Rattle.plate.specs.Settings.{Sound}
 use Rattle.plate.specs.declared.settings.Settings.{Settings}
 use Rattle.sequence.specs.Rules.{shape}
 use Rattle.sequence.proofs.Layers.{shape-by}
-use Rattle.sheets.specs.Shaped.{Shaped}
+use Rattle.sheets.proofs.Shaped.{Shaped, shaped}
 use Rattle.table.specs.Cells.{cellFrom}
 use Rattle.plan.specs.Planning.{planRules, tableRules}
 use Rattle.plan.specs.Rows.{Usable}
@@ -54,18 +54,18 @@ module _ (c : tie.Else1) where
   in-shape = not-false _ (c .if1 .left)
 
   starts-above : s .args .t ≤ s .args .q
-  starts-above = above (s .args .s) (s .pre .0 .sound) _ _ _ (i .is-layer .ensures) in-shape
+  starts-above = above (s .args .s) (s .pre .0 .sound) _ _ _ (shaped _ _ _ _ _ _ (i .is-layer .ensures)) in-shape
 
 returns : tie.Need-returns
 returns c =
     let i = c .before in
     let s = i .before .before .before .before in
-    forbidden (s .args .s) (s .pre .0 .sound) _ _ _ (i .is-layer .ensures) _ _ (not-true _ (c .if1 .taken))
+    forbidden (s .args .s) (s .pre .0 .sound) _ _ _ (shaped _ _ _ _ _ _ (i .is-layer .ensures)) _ _ (not-true _ (c .if1 .taken))
 
 returns-2 : tie.Need-returns-2
 returns-2 c =
     let e = c .before in
-    within (s e .args .s) (s e .pre .0 .sound) _ _ _ (i e .is-layer .ensures) _ _ _ (in-shape e) (c .layer-cell .ensures)
+    within (s e .args .s) (s e .pre .0 .sound) _ _ _ (shaped _ _ _ _ _ _ (i e .is-layer .ensures)) _ _ _ (in-shape e) (c .layer-cell .ensures)
 
 pub may-use-spec : {M : Type 1} → statement M
 may-use-spec =

@@ -11,7 +11,7 @@ use Rattle.plate.specs.Settings.{Sound}
 use Rattle.plate.specs.declared.settings.Settings.{Settings}
 use Rattle.sequence.specs.Rules.{shape}
 use Rattle.sequence.proofs.Layers.{shape-by, shape-low}
-use Rattle.sheets.specs.Shaped.{Shaped}
+use Rattle.sheets.proofs.Shaped.{Shaped, shaped}
 use Rattle.readback.proofs.is_layer_under.Statement.{statement}
 use Rattle.readback.proofs.is_layer_under.Tie as tie
 
@@ -27,4 +27,4 @@ is-layer-under-spec =
     (λ c. search needs)
     (λ c. search needs)
     (λ c κs. search needs)
-    (λ c. let s = c .before .before .before in told (s .args .s) (s .pre) _ _ _ (c .is-layer .ensures) (decLt _ _)))
+    (λ c. let s = c .before .before .before in told (s .args .s) (s .pre) _ _ _ (shaped _ _ _ _ _ _ (c .is-layer .ensures)) (decLt _ _)))

@@ -9,6 +9,7 @@ use borrow.Author.Tests.{not-true, not-false}
 use Rattle.paper.proofs.Thicknesses.{allowed-under, allowed-to}
 use Rattle.sequence.specs.Rules.{shape}
 use Rattle.sequence.proofs.Layers.{shape-by, shape-barred, shape-allowed, shape-to}
+use Rattle.sheets.proofs.Shaped.{shaped}
 use Rattle.table.specs.Cells.{cellFrom}
 use Rattle.table.proofs.Cells.{cell-read}
 use Rattle.recount.proofs.Layers.{out-shape, out-bound, in-bound}
@@ -26,7 +27,7 @@ module _ (c : tie.After-is-layer) where
   asked : (answer : Bool) → c .is-layer .result ≡ answer
       → shape (s .args .s .height) (s .args .s .members) (s .args .below) (s .args .above - s .args .below) ≡ answer
   asked answer e =
-      sym (shape-by _ _ _ _ (s .args .s .tmax) (s .pre .0 .greatest)) ∙ sym (c .is-layer .ensures .shape-is (s .args .below) (omega (arith, lower .row-of .ensures, s .pre .1))) ∙ e
+      sym (shape-by _ _ _ _ (s .args .s .tmax) (s .pre .0 .greatest)) ∙ sym (shaped _ _ _ _ _ _ (c .is-layer .ensures) .shape-is (s .args .below) (omega (arith, lower .row-of .ensures, s .pre .1))) ∙ e
 
 -- past the test on the shape
 module _ (c : tie.Else2) where
