@@ -26,6 +26,7 @@ use sheets::Least;
 use sheets::NONE;
 use sheets::is_layer;
 use sheets::least_end;
+use table::cell_of;
 use table::check_table;
 
 // Where the entry of the row q and the count m stands. It is reckoned here, where settings are sound, and not by `sheets`, which asks nothing and
@@ -38,13 +39,13 @@ fn entry_of(s: Settings, q: usize, m: usize) -> usize
     q * (s.counts + 1) + m
 }
 
-// The cell of the layer from row `start` of thickness t. A table in order has it, so nothing is asked, as `cell_of` asks of any table.
+// The cell of the layer from row `start` of thickness t.
 fn layer_cell(table: &[u32], s: Settings, start: usize, t: usize) -> u32
     requires { ⌜ Ready s (now table) ⌝ }
     requires { ⌜ (start < s .rows) × (1 ≤ t) × (t ≤ s .tmax) ⌝ }
     ensures { λ r. ⌜ r ≡ cellFrom (s .members) (now (table .entry)) (atRow (s .tmax) start) t ⌝ }
 {
-    table[start * s.tmax + (t - 1)]
+    cell_of(table, s.tmax as u32, start as u32, t as u32)
 }
 
 // Whether a layer of thickness t that ends at row q starts at a row, and is permitted there.
