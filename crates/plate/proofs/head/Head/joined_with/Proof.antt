@@ -1,5 +1,5 @@
 -- `Head::joined_with` meets its contract: where both together are not too many, their sum fits. Assumes nothing.
-use mathlib.Core.Path.{_≡_, refl, sym, _∙_}
+use mathlib.Core.Path.{refl, sym, _∙_}
 use native.Mathlib.Omega.{arith}
 use borrow.Author.Needs.{needs}
 use Rattle.plate.proofs.Heads.{not-over-both}

@@ -1,5 +1,5 @@
 -- `Head::with_column` meets its contract: where there is room for one more, the count plus 1 fits. Assumes nothing.
-use mathlib.Core.Path.{_≡_, refl, sym, _∙_}
+use mathlib.Core.Path.{refl, sym, _∙_}
 use native.Mathlib.Omega.{arith}
 use borrow.Author.Needs.{needs}
 use Rattle.plate.proofs.Heads.{not-full}
