@@ -17,9 +17,14 @@ misplaced N bs i = ltb N (getD bs i 0) || cond (eqb i 0) false (leb (getD bs i 0
 unfoldable pub firstMisplaced : ℕ → List ℕ → ℕ
 firstMisplaced N bs = lowest (misplaced N bs) (length bs)
 
--- 4: boundary count odd or above 64; 5: boundary not above the one before, or above N
+-- 'boundary count odd or above 64'
+abbrev pub wrongCount : ℕ → Bool
+wrongCount n = eqb (n % 2) 1 || ltb mostBoundaries n
+
+-- 'boundary not above the one before, or above N'
+abbrev pub disordered : ℕ → List ℕ → Bool
+disordered N bs = ltb (firstMisplaced N bs) (length bs)
+
+-- 4 and 5 of a column
 unfoldable pub columnChecks : ℕ → List ℕ → List (Check Numbered)
-columnChecks N bs =
-    check 4 (eqb (length bs % 2) 1 || ltb mostBoundaries (length bs)) (length bs)
-    ∷ check 5 (ltb (firstMisplaced N bs) (length bs)) (firstMisplaced N bs)
-    ∷ []
+columnChecks N bs = check 4 (wrongCount (length bs)) (length bs) ∷ check 5 (disordered N bs) (firstMisplaced N bs) ∷ []

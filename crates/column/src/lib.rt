@@ -1,13 +1,14 @@
 // A column: its order, and one column in one layer.
+ghost use mathlib.Core.Bool.{false};
 ghost use mathlib.Core.Path.{_≡_};
-ghost use Prim.Native.Nat.{_+_, _%_, _<_, _≤_};
+ghost use Prim.Native.Nat.{ℕ, _+_, _%_, _<_, _≤_};
 ghost use lib.ListN.{length};
 ghost use Rattle.lists.specs.Checks.{first};
 ghost use Rattle.plate.specs.Checked.{saidBy};
 ghost use Rattle.plate.specs.Refusal.{decided};
 ghost use Rattle.plate.specs.Settings.{Sound};
 ghost use Rattle.plate.specs.Datum.{heightOf};
-ghost use Rattle.column.specs.Order.{misplaced, firstMisplaced, columnChecks};
+ghost use Rattle.column.specs.Order.{misplaced, firstMisplaced, wrongCount, columnChecks};
 ghost use Rattle.column.specs.Inside.{reachedBy, passed, inside, judgedOf};
 ghost use Rattle.column.specs.Picture.{layerChecks, judgement, toldPicture, pictureAnswer};
 ghost use mathlib.Core.List.{_++_};
@@ -73,22 +74,47 @@ fn first_misplaced(column: &[u16], height: usize) -> usize
     i
 }
 
+// Whether a boundary is misplaced. All are looked at, with no way out on the way, which is quick where none is, as is mostly so; and where each is
+// above the one before, the last is the highest.
+fn any_misplaced(column: &[u16], height: usize) -> bool
+    ensures { λ r. ⌜ (r ≡ false → (i : ℕ) → i < length (now (column .entry)) → misplaced height (now (column .entry)) i ≡ false) ⌝ }
+{
+    let count = column.len();
+    if count == 0 {
+        return false;
+    }
+    let mut found = false;
+    let mut i: usize = 1;
+    while i < count {
+        found = found | (column[i] <= column[i - 1]);
+        i += 1;
+    }
+    found | (height < column[count - 1] as usize)
+}
+
+// Whether a column can't have so many boundaries.
+pub fn is_wrong_count(count: usize) -> bool
+    ensures { λ r. ⌜ r ≡ wrongCount count ⌝ }
+{
+    if count % 2 == 1 {
+        return true;
+    }
+    Column::MOST_BOUNDARIES < count
+}
+
 // Refusals 4 and 5.
 pub fn check_column(column: &[u16], height: usize) -> Checked
     ensures { λ r. ⌜ saidBy r ≡ first (columnChecks height (now (column .entry))) ⌝ }
 {
     let count = column.len();
-    if count % 2 == 1 {
+    if is_wrong_count(count) {
         return Checked::Refused(Refusal {
             reason: Reason::BoundaryCount,
             place: count as u64,
         });
     }
-    if Column::MOST_BOUNDARIES < count {
-        return Checked::Refused(Refusal {
-            reason: Reason::BoundaryCount,
-            place: count as u64,
-        });
+    if !any_misplaced(column, height) {
+        return Checked::Passed;
     }
     let at = first_misplaced(column, height);
     if at < count {
