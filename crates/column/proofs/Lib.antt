@@ -1,4 +1,5 @@
 pub mod Order
+pub mod Fine
 pub mod Inside
 pub mod Shares
 pub mod Between

@@ -4,3 +4,4 @@ pub mod Says
 pub mod Folding
 pub mod Deciding
 pub mod Ordering
+pub mod Whole

@@ -5,9 +5,9 @@ use mathlib.Core.Path.{_≡_, refl, sym, ap, subst, _∙_}
 use mathlib.Core.Bool.{true, false}
 use mathlib.Core.List.{List, [], _∷_, _++_, append-nil}
 use mathlib.Core.Option.{none}
-use Prim.Native.Nat.{ℕ, zero, suc, _+_, _≤_, _<_}
+use Prim.Native.Nat.{ℕ, zero, suc, _+_, _≤_}
 use native.Mathlib.Omega.{arith}
-use lib.ListN.{length, getD}
+use lib.ListN.{length}
 use Rattle.lists.specs.Checks.{first}
 use Rattle.paper.specs.Limits.{mostColumns}
 use Rattle.paper.specs.Layer.{Column, columnOf}
@@ -17,7 +17,7 @@ use Rattle.plate.specs.Head.{headOf, settledHead, more}
 use Rattle.plate.specs.declared.head.Head.{Head}
 use Rattle.plate.proofs.Heads.{head-last, not-full}
 use Rattle.column.specs.Order.{columnChecks}
-use Rattle.record.specs.Bytes.{words}
+use Rattle.record.specs.Bytes.{Bytes, words}
 use Rattle.record.specs.Frame.{bodyAt}
 use Rattle.record.proofs.Bytes.{quad-small}
 use Rattle.job.specs.State.{begin, counted, askedOf}
@@ -108,7 +108,7 @@ module _ (asking : Asking) (s : List ℕ) where
 
   -- ---- at the end
 
-  pub ordered : ((i : ℕ) → getD s i 0 < 256) → (f : Finished) → jobFrom asking s ≡ done f → Ordered asking (f .job)
+  pub ordered : Bytes s → (f : Finished) → jobFrom asking s ≡ done f → Ordered asking (f .job)
   ordered byte f e = go (end-decides asking s f .0 e)
     where
       go : ((st : State) × (at : ℕ) × (r : Reached asking s st at) × Ends (readRecord s st at .told)
@@ -131,7 +131,7 @@ module _ (asking : Asking) (s : List ℕ) where
 
   -- ---- the settings stay
 
-  behind-done : (columns : List Column) (t : Told Finished) (f : Finished) → behind columns t ≡ done f → (g : Finished) × (t ≡ done g) × (g .job .asked ≡ f .job .asked)
+  pub behind-done : (columns : List Column) (t : Told Finished) (f : Finished) → behind columns t ≡ done f → (g : Finished) × (t ≡ done g) × (g .job .asked ≡ f .job .asked)
   behind-done columns (done g) f e =
       let is : jobEnding (g .job .asked) (columns ++ g .job .columns) (g .past) ≡ f = cc in
       (g, refl, ap (λ (x : Finished). x .job .asked) is)
@@ -149,7 +149,7 @@ module _ (asking : Asking) (s : List ℕ) where
     stays (done remark) q f e = later (m .state) (m .next) (ap (λ (x : State). x .begun) (q .state) ∙ begun) f e ∙ ap askedOf (q .state)
     stays (refused number place) q f e = absurd (let z : _≡_ {A = ℕ} 0 1 = cc in omega arith)
 
-  stay : (n : ℕ) (st : State) (at : ℕ) → st .begun ≡ true → (f : Finished) → foldFrom (jobOver asking) endless n s st at ≡ done f → f .job .asked ≡ askedOf st
+  pub stay : (n : ℕ) (st : State) (at : ℕ) → st .begun ≡ true → (f : Finished) → foldFrom (jobOver asking) endless n s st at ≡ done f → f .job .asked ≡ askedOf st
   unfolding foldFrom
   stay zero st at b f e = absurd (let z : _≡_ {A = ℕ} 0 1 = cc in omega arith)
   stay (suc n) st at b f e =

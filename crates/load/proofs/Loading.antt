@@ -4,10 +4,10 @@
 use mathlib.Core.Path.{_≡_, refl, sym, ap, subst, _∙_}
 use mathlib.Core.List.{List, [], _∷_}
 use mathlib.Core.Option.{Option, none, some}
-use Prim.Native.Nat.{ℕ, _<_}
+use Prim.Native.Nat.{ℕ}
 use native.Mathlib.Omega.{arith}
 use borrow.Author.Tests.{ltb-false}
-use lib.ListN.{length, getD}
+use lib.ListN.{length}
 use Rattle.lists.specs.Checks.{first}
 use Rattle.lists.proofs.Checks.{first-none, first-passed}
 use Rattle.paper.specs.Table.{cells}
@@ -22,6 +22,7 @@ use Rattle.plate.proofs.Calls.{refuses, works, unwritten, finished}
 use Rattle.table.specs.Table.{short, clearing}
 use Rattle.table.specs.Plates.{tableOf}
 use Rattle.table.proofs.Plates.{cleared-is, length-table, table-again}
+use Rattle.record.specs.Bytes.{Bytes}
 use Rattle.record.specs.Faults.{tail}
 use Rattle.job.specs.File.{Job, Finished, wholeBy, wholeFile}
 use Rattle.job.proofs.Ordering.{ordered}
@@ -31,7 +32,7 @@ use Rattle.load.specs.declared.Load.{Load}
 
 -- ---- the job at the front, read into a table
 
-module _ (most : ℕ) (s : List ℕ) (byte : (i : ℕ) → getD s i 0 < 256) (load : Load) (w : Seen (frontOf most s) load) (table : List ℕ) where
+module _ (most : ℕ) (s : List ℕ) (byte : Bytes s) (load : Load) (w : Seen (frontOf most s) load) (table : List ℕ) where
   abbrev job : Job
   job = w .found .job
 

@@ -14,12 +14,12 @@ use Rattle.plate.specs.Head.{Held, cellsOf, limitOf, headChecks}
 use Rattle.plate.specs.Refusal.{done}
 use Rattle.plate.proofs.Calls.{finished}
 use Rattle.plate.proofs.Heads.{not-over}
+use Rattle.column.proofs.Fine.{settings-passed}
 use Rattle.table.specs.Cells.{firstOut}
 use Rattle.table.specs.Table.{short, outCell, boundChecks}
 use Rattle.table.proofs.Passed.{all-within}
 use Rattle.plan.specs.Plan.{Sheets, planRest, planning}
 use Rattle.promises.specs.Plans.{Accepted}
-use Rattle.promises.proofs.Fine.{settings-passed}
 
 -- the members are 32 bits wide
 pub plan-accepted : (held : Held) (bound : ℕ) (lent : Sheets) (m : ℕ) → held .head .members < sets

@@ -22,6 +22,7 @@ use Rattle.plate.specs.Call.{answerOf, leftBy}
 use Rattle.plate.specs.Head.{Held, headChecks}
 use Rattle.plate.specs.Refusal.{Told, done, refused}
 use Rattle.plate.proofs.Calls.{passes}
+use Rattle.column.proofs.Fine.{settings-fine}
 use Rattle.table.specs.Table.{short, Bounded}
 use Rattle.table.proofs.Passed.{bounds-fine}
 use Rattle.plan.specs.Plan.{Sheets, planRest, planned, planning}
@@ -31,7 +32,6 @@ use Rattle.meaning.proofs.Choice.{length-count}
 use Rattle.meaning.proofs.Table.{table-agrees}
 use Rattle.meaning.proofs.Usable.{agree-back, same-chosen, same-none, same-error}
 use Rattle.promises.specs.Plans.{plateOf, SettingsOf, Room, Answers, ReadsBack}
-use Rattle.promises.proofs.Fine.{settings-fine}
 use Rattle.promises.proofs.Plans.{plan-reads}
 use Rattle.promises.proofs.Recounts.{recounts}
 

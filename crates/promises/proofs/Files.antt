@@ -5,7 +5,7 @@ use mathlib.Core.Path.{_≡_, refl, sym, ap, subst, _∙_}
 use mathlib.Core.Logic.{inl, inr, _↔_}
 use mathlib.Core.List.{List, [], _∷_}
 use mathlib.Core.Option.{Option, none}
-use Prim.Native.Nat.{ℕ, _≤_, _<_}
+use Prim.Native.Nat.{ℕ, _≤_}
 use native.Mathlib.Omega.{arith}
 use borrow.Author.Tests.{le-ltb, ltb-false}
 use lib.ListN.{length, getD}
@@ -16,9 +16,11 @@ use Rattle.paper.specs.Table.{cells, Table}
 use Rattle.plate.specs.Refusal.{Told, done, refused, Numbered, toldBy}
 use Rattle.plate.proofs.Decided.{refused-first}
 use Rattle.plate.proofs.Calls.{passes}
+use Rattle.column.proofs.Fine.{settings-passed, column-passed}
 use Rattle.table.specs.Table.{short}
 use Rattle.table.specs.Plates.{tableOf}
 use Rattle.table.proofs.Plates.{length-table, table-past, table-is}
+use Rattle.record.specs.Bytes.{Bytes}
 use Rattle.record.specs.Faults.{tail}
 use Rattle.record.proofs.Places.{at-place}
 use Rattle.job.specs.State.{askedOf}
@@ -31,11 +33,11 @@ use Rattle.job.proofs.Folding.{jobEnding}
 use Rattle.job.proofs.Deciding.{fault-decides, end-decides as job-decides}
 use Rattle.job.proofs.Ordering.{under, same-asked}
 use Rattle.job.proofs.Ordering as ordering
+use Rattle.job.proofs.Whole.{whole-by, Front, front-of}
 use Rattle.load.specs.Load.{tooLarge, jobOf, loadingJob, loading, loadAnswer, loadTable}
-use Rattle.load.proofs.Whole.{whole-by, Front, front-of, fitting}
+use Rattle.load.proofs.Whole.{fitting}
 use Rattle.promises.specs.Runs.{Columns}
 use Rattle.promises.specs.Files.{StopsFile, faultPlace, Closes, FileRead}
-use Rattle.promises.proofs.Fine.{settings-passed, column-passed}
 use Rattle.promises.proofs.Places.{record-place}
 
 -- ---- what is known of the end of a file
@@ -71,28 +73,28 @@ module _ (most : ℕ) (s : List ℕ) where
       to : (front : Told Finished) → jobFrom (tooLarge most) s ≡ front → jobOf most s ≡ refused number place
           → (st : State) × (at : ℕ) × Reached (tooLarge most) s st at × StopsFile most s st at number place
       to (refused n p) f e =
-          let g = sym (whole-by most s (refused n p) f) ∙ e in
+          let g = sym (whole-by (tooLarge most) s (refused n p) f) ∙ e in
           let a : n ≡ number = cc in
           let b : p ≡ place = cc in
           let x = fault-decides (tooLarge most) s number place .0 (f ∙ (λ i. refused (a i) (b i))) in
           (x .0, x .1, x .2, inl (x .3))
       to (done j) f e =
           let x = job-decides (tooLarge most) s j .0 f in
-          let g = refused-first (tail s (j .past) ∷ []) (j .job) number place (sym (whole-by most s (done j) f) ∙ e) in
+          let g = refused-first (tail s (j .past) ∷ []) (j .job) number place (sym (whole-by (tooLarge most) s (done j) f) ∙ e) in
           (x .0, x .1, x .2, inr (x .3, ap (λ (y : Finished). first (tail s (y .past) ∷ [])) (x .4) ∙ g))
 
       from : (st : State) (at : ℕ) → Reached (tooLarge most) s st at → StopsFile most s st at number place → jobOf most s ≡ refused number place
-      from st at r (inl p) = whole-by most s (refused number place) (fault-decides (tooLarge most) s number place .1 (st, at, r, p))
+      from st at r (inl p) = whole-by (tooLarge most) s (refused number place) (fault-decides (tooLarge most) s number place .1 (st, at, r, p))
       from st at r (inr (e, t)) =
           let j = jobEnding (askedOf (readRecord s st at .state)) (columnsTo r) (readRecord s st at .next) in
-          whole-by most s (done j) (job-decides (tooLarge most) s j .1 (st, at, r, e, refl)) ∙ ap (λ (o : Option Numbered). toldBy o (j .job)) t
+          whole-by (tooLarge most) s (done j) (job-decides (tooLarge most) s j .1 (st, at, r, e, refl)) ∙ ap (λ (o : Option Numbered). toldBy o (j .job)) t
 
   -- and where none is at fault, the end was read: its count is the number of columns, and they are those on the way there
   pub end-decides : (job : Job)
       → (jobOf most s ≡ done job) ↔ ((st : State) × (at : ℕ) × (r : Reached (tooLarge most) s st at) × Closes s st at job × (job .columns ≡ columnsTo r))
-  end-decides job = (λ e. to e (front-of most s job e), λ x. from (x .0) (x .1) (x .2) (x .3) (x .4))
+  end-decides job = (λ e. to e (front-of (tooLarge most) s job e), λ x. from (x .0) (x .1) (x .2) (x .3) (x .4))
     where
-      to : jobOf most s ≡ done job → Front most s job
+      to : jobOf most s ≡ done job → Front (tooLarge most) s job
           → (st : State) × (at : ℕ) × (r : Reached (tooLarge most) s st at) × Closes s st at job × (job .columns ≡ columnsTo r)
       to e f =
           let x = job-decides (tooLarge most) s (f .found) .0 (f .is) in
@@ -117,7 +119,7 @@ module _ (most : ℕ) (s : List ℕ) where
           let j = jobEnding (askedOf (readRecord s st at .state)) (columnsTo r) (readRecord s st at .next) in
           let a = asked-there most s r e ∙ p .asked in
           let t : first (tail s (readRecord s st at .next) ∷ []) ≡ none = simp (le-ltb (readRecord s st at .next) (length s) (omega (arith, p .last))) in
-          whole-by most s (done j) (job-decides (tooLarge most) s j .1 (st, at, r, e, refl))
+          whole-by (tooLarge most) s (done j) (job-decides (tooLarge most) s j .1 (st, at, r, e, refl))
           ∙ ap (λ (o : Option Numbered). toldBy o (j .job)) t
           ∙ (λ i. done (record { asked = a i; columns = sym is i }))
 
@@ -143,7 +145,7 @@ module _ (most : ℕ) (s : List ℕ) where
 
 -- ---- a file read into a lent table
 
-columns-passed : (N : ℕ) (columns : List Column) → ColumnsInOrder N columns → Columns N columns
+pub columns-passed : (N : ℕ) (columns : List Column) → ColumnsInOrder N columns → Columns N columns
 columns-passed N [] o = tt
 columns-passed N (c ∷ columns) o = (column-passed N (c .boundaries) (o .0), columns-passed N columns (o .1))
 
@@ -153,7 +155,7 @@ module _ (job : Job) (lent : List ℕ) (room : cells (job .asked .height) (job .
   load-passes = simp (le-ltb (length lent) (cells (job .asked .height) (job .asked .members)) room)
 
   -- a file of bytes that is not refused, and a buffer with room
-  pub file-tabulated : (most : ℕ) (s : List ℕ) → ((i : ℕ) → getD s i 0 < 256) → jobOf most s ≡ done job → FileRead most s job lent
+  pub file-tabulated : (most : ℕ) (s : List ℕ) → Bytes s → jobOf most s ≡ done job → FileRead most s job lent
   unfolding loading
   file-tabulated most s byte e =
       let N = job .asked .height in

@@ -1,4 +1,3 @@
-pub mod Fine
 pub mod Errors
 pub mod Largest
 pub mod Accepted

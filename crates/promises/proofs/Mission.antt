@@ -1,16 +1,17 @@
 -- THE MISSION is met: each sentence by the theorem that says it. From the columns to the sequence: each way leaves the plate's table, which is in
 -- bounds, so that it is planned and read back in the words of the columns. Assumes nothing.
-use Prim.Native.Nat.{ℕ, _≤_, _<_}
+use Prim.Native.Nat.{ℕ, _≤_}
 use mathlib.Core.Path.{_≡_}
 use mathlib.Core.List.{List, Perm, Perm·symm}
 use native.Mathlib.Omega.{arith}
-use lib.ListN.{length, getD}
+use lib.ListN.{length}
 use Rattle.lists.proofs.Perm.{length-perm}
 use Rattle.paper.specs.Layer as paper
 use Rattle.paper.specs.Layer.{Column, ofColumns}
 use Rattle.paper.specs.Limits.{mostColumns}
 use Rattle.paper.specs.Table.{Table}
 use Rattle.plate.specs.Head.{Held}
+use Rattle.record.specs.Bytes.{Bytes}
 use Rattle.promises.specs.Mission.{Mission}
 use Rattle.promises.specs.Groups.{GroupsJoin, TablesJoin}
 use Rattle.promises.specs.Jobs.{JobDecided}
@@ -29,7 +30,7 @@ use Rattle.promises.proofs.Told.{only, unwritten, unmoved}
 
 -- ---- demand 1, of files
 
-job-decided : (most : ℕ) (s : List ℕ) → ((i : ℕ) → getD s i 0 < 256) → JobDecided most s
+job-decided : (most : ℕ) (s : List ℕ) → Bytes s → JobDecided most s
 job-decided most s byte = record {
   fault = first-decides most s;
   place = fault-place most s;

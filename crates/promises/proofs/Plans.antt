@@ -42,6 +42,7 @@ use Rattle.sequence.specs.Sheets.{mark, unmark, errorEntry, thicknessEntry, ent
 use Rattle.sequence.proofs.Bounds.{least-bound}
 use Rattle.sequence.proofs.Marks.{Small, unmark-mark}
 use Rattle.sequence.proofs.Sheets.{entry-is, no-fault, walked}
+use Rattle.column.proofs.Fine.{settings-fine}
 use Rattle.table.specs.Cells.{cellFrom}
 use Rattle.table.proofs.Cells.{cell-is}
 use Rattle.plan.specs.Plan.{Sheets, planned}
@@ -50,7 +51,6 @@ use Rattle.readback.specs.Reading.{sizeChecks, roomChecks, entryChecks, reading
 use Rattle.meaning.specs.Working as meaning
 use Rattle.meaning.proofs.Choice.{found-exact, found-none, chosen-error, listed, listed-none}
 use Rattle.promises.specs.Plans.{Room, Answers, ReadsBack}
-use Rattle.promises.proofs.Fine.{settings-fine}
 
 -- ---- the rules of a table are those of its plate
 

@@ -31,6 +31,7 @@ use Rattle.plate.proofs.Datum.{height-datum, pos-height, le-up, le-down, lt-up}
 use Rattle.sequence.specs.Rules.{shape}
 use Rattle.sequence.specs.Sequence.{Rules, starts, lowestEnd}
 use Rattle.sequence.proofs.Layers.{start-from, shape-allowed, shape-to}
+use Rattle.column.proofs.Fine.{settings-fine}
 use Rattle.table.specs.Cells.{cellFrom}
 use Rattle.table.specs.Table.{tableChecks, Bounded}
 use Rattle.table.proofs.Passed.{table-fine}
@@ -39,7 +40,6 @@ use Rattle.recount.specs.Recount.{outBetween, layerOut, firstLayerOut, sequence
 use Rattle.meaning.specs.Working.{rulesOf}
 use Rattle.meaning.proofs.Sequence.{PermittedBetween}
 use Rattle.meaning.proofs.Stacks.{stack-up, at-datum, start-at, permitted-at}
-use Rattle.promises.proofs.Fine.{settings-fine}
 use Rattle.promises.proofs.Plans.{rules-are}
 
 two : (zs : List ℤ) → 1 ≤ count zs → 2 ≤ length zs

@@ -26,6 +26,7 @@ use Rattle.plate.specs.declared.head.Head.{Head}
 use Rattle.plate.proofs.Calls.{passes}
 use Rattle.plate.proofs.Heads.{head-more, head-perm, head-both, head-less, few-not-full}
 use Rattle.column.specs.Order.{columnChecks}
+use Rattle.column.proofs.Fine.{settings-fine, column-fine}
 use Rattle.table.specs.Table.{short, Bounded, cleared, clearing}
 use Rattle.table.proofs.Plates.{cell-limit}
 use Rattle.adding.specs.Adding.{addend, overfullCell, addRest, added, adding}
@@ -34,7 +35,6 @@ use Rattle.joining.specs.Joining.{joined, joining, taken, taking}
 use Rattle.joining.proofs.Fine.{join-fine, take-fine}
 use Rattle.meaning.proofs.Columns.{shares-append, shares-perm}
 use Rattle.promises.specs.Runs.{holds, runs, next, clear, add, join, take, addAll, tabulate, Group, Joins, one, both, columnsOf, joinAll, LentEnough, Columns, Tabulated, Tabulates, TableOf}
-use Rattle.promises.proofs.Fine.{settings-fine, column-fine}
 
 -- ---- cells of plates
 

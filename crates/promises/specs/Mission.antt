@@ -1,11 +1,11 @@
 -- THE MISSION as one statement: a field for each of its sentences, which stand above them. Assumes nothing.
 use Prim.Native.Nat.{ℕ, _≤_, _<_}
 use mathlib.Core.List.{List}
-use lib.ListN.{getD}
 use Rattle.paper.specs.Layer as paper
 use Rattle.paper.specs.Layer.{Column}
 use Rattle.paper.specs.Limits.{mostColumns, sets, largestBound}
 use Rattle.plate.specs.Head.{Held}
+use Rattle.record.specs.Bytes.{Bytes}
 use Rattle.plan.specs.Plan.{Sheets}
 use Rattle.promises.specs.Errors.{ErrorCounts}
 use Rattle.promises.specs.Groups.{GroupsJoin, TablesJoin}
@@ -22,7 +22,7 @@ pub record Mission : Type 0 where
 
   -- 'Every column, thickness set, table, sequence or file gets an answer.'
   pub answered : Orders
-  pub decided : (most : ℕ) (s : List ℕ) → ((i : ℕ) → getD s i 0 < 256) → JobDecided most s
+  pub decided : (most : ℕ) (s : List ℕ) → Bytes s → JobDecided most s
   -- what is told says which answer it was
   pub told-apart : Only
   -- 'Bad input is refused by the number and place that document 01 gives; each call checks for itself.'

@@ -4,7 +4,7 @@ use mathlib.Core.List.{List}
 use Prim.Native.Nat.{ℕ, zero, suc, _+_, _≤_, _<_}
 use native.Mathlib.Omega.{arith}
 use lib.ListN.{length, getD, length-append, List·getD-eq-default}
-use Rattle.record.specs.Bytes.{le16, le32, words}
+use Rattle.record.specs.Bytes.{Bytes, le16, le32, words}
 
 -- where nothing is left, and where one byte is
 pub none-left : (s : List ℕ) (at : ℕ) → length s ≤ at → le16 s at ≡ 0
@@ -24,6 +24,6 @@ length-words s start zero = refl
 length-words s start (suc n) = length-append (words s start n) _ ∙ (let e = length-words s start n in omega arith)
 
 -- four bytes are a number of 32 bits
-pub quad-small : (s : List ℕ) → ((i : ℕ) → getD s i 0 < 256) → (at : ℕ) → le32 s at < 4_294_967_296
+pub quad-small : (s : List ℕ) → Bytes s → (at : ℕ) → le32 s at < 4_294_967_296
 unfolding le32 le16
 quad-small s byte at = omega (arith, byte at, byte (at + 1), byte (at + 2), byte (at + 2 + 1))

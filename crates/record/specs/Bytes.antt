@@ -1,7 +1,11 @@
 -- Little-endian numbers in a list of bytes; a byte past its end is 0. Assumes nothing.
-use Prim.Native.Nat.{ℕ, zero, suc, _+_, _*_}
+use Prim.Native.Nat.{ℕ, zero, suc, _+_, _*_, _<_}
 use mathlib.Core.List.{List, [], _∷_, _++_}
 use lib.ListN.{getD}
+
+-- every one of them is a byte
+abbrev pub Bytes : List ℕ → Type 0
+Bytes s = (i : ℕ) → getD s i 0 < 256
 
 -- the two bytes from a place on, as a number, the lower byte first
 unfoldable pub le16 : List ℕ → ℕ → ℕ

@@ -8,18 +8,19 @@ use Prim.Native.Nat.{ℕ, zero, suc, _+_, _*_, _≤_, _<_}
 use native.Mathlib.Omega.{arith}
 use lib.Dec.{ltb}
 use lib.IntN.{ℤ}
-use lib.ListN.{length, getD, length-append}
+use lib.ListN.{length, length-append}
 use Rattle.paper.specs.Layer.{Plate, ofColumns}
 use Rattle.paper.specs.Sequence.{M, error}
 use Rattle.plate.specs.Refusal.{Told, done, refused}
 use Rattle.text.specs.Numbers.{decimal, signed}
 use Rattle.text.proofs.Lengths.{decimal-length, signed-length}
+use Rattle.column.proofs.Fine.{settings-passed}
+use Rattle.record.specs.Bytes.{Bytes}
 use Rattle.job.specs.File.{Job}
 use Rattle.load.specs.Load.{jobOf}
 use Rattle.load.proofs.Whole.{fitting}
 use Rattle.meaning.specs.Working.{found}
 use Rattle.meaning.proofs.Choice.{length-count, found-exact}
-use Rattle.promises.proofs.Fine.{settings-passed}
 use Rattle.report.specs.Lines.{refusedWord, atWord, heightWord, columnsWord, countsWord, noneWord, space, lineEnd, most, mostText, refusedLine, headLine, boundaryText, boundariesText, noneLine, sequenceLine, countLine, countLines, jobText, planText}
 use Rattle.report.proofs.Printed.{few-counts}
 
@@ -81,7 +82,7 @@ lines-length line n (suc k) e =
 pub long-fits : length (refusedLine 17 0) ≤ mostText
 long-fits = omega (arith, refused-length 17 0 .fits)
 
-module _ (s : List ℕ) (byte : (i : ℕ) → getD s i 0 < 256) where
+module _ (s : List ℕ) (byte : Bytes s) where
   job-length : (file : Told Job) → jobOf most s ≡ file → length (jobText file) ≤ mostText
   job-length (refused number place) e = omega (arith, refused-length number place .fits)
   job-length (done job) e =

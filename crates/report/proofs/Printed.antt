@@ -10,7 +10,7 @@ use native.Mathlib.Omega.{arith}
 use borrow.Author.Tests.{ltb-true, ltb-false}
 use lib.Dec.{ltb}
 use lib.IntN.{ℤ, pos}
-use lib.ListN.{length, getD, take, length-replicate}
+use lib.ListN.{length, take, length-replicate}
 use Rattle.paper.specs.Layer as paper
 use Rattle.paper.specs.Layer.{Plate, ofColumns}
 use Rattle.paper.specs.Table.{rows}
@@ -22,6 +22,7 @@ use Rattle.plate.specs.Settings.{Sound, settingsOf}
 use Rattle.plate.proofs.Sizes.{sound}
 use Rattle.plate.specs.Call.{leftBy}
 use Rattle.plate.specs.Head.{Held, heldIn}
+use Rattle.record.specs.Bytes.{Bytes}
 use Rattle.job.specs.File.{Job}
 use Rattle.load.specs.Load.{jobOf, Fitting, loadOf, loading, loadTable}
 use Rattle.load.specs.declared.Load.{Load}
@@ -75,7 +76,7 @@ few-counts N T s e = go (ltb 63 (M N T)) refl
         let m = mul-le-mul {n₁ = 65} {m₁ = 65} {n₂ = rows N T + 1} {m₂ = M N T + 1} (omega arith) (omega arith) in
         absurd (omega (arith, k .entries-are, m, e))
 
-module _ (s : List ℕ) (byte : (i : ℕ) → getD s i 0 < 256) (job : Job) (is : jobOf most s ≡ done job) where
+module _ (s : List ℕ) (byte : Bytes s) (job : Job) (is : jobOf most s ≡ done job) where
   abbrev N : ℕ
   N = job .asked .height
 
@@ -129,7 +130,7 @@ module _ (s : List ℕ) (byte : (i : ℕ) → getD s i 0 < 256) (job : Job) (is 
   job-printed = ap (λ (x : Told Load). loadedBy x table) (read .answer) ∙ planned ∙ ap jobText (sym is)
 
 -- WHAT IS PRINTED for a file of bytes
-pub printed : (s : List ℕ) → ((i : ℕ) → getD s i 0 < 256) → fileText (jobOf most s) blankTable ≡ jobText (jobOf most s)
+pub printed : (s : List ℕ) → Bytes s → fileText (jobOf most s) blankTable ≡ jobText (jobOf most s)
 unfolding fileText loading
 printed s byte = go (jobOf most s) refl
   where

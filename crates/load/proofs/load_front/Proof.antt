@@ -2,16 +2,14 @@
 use borrow.Author.Needs.{needs}
 use native.Mathlib.Omega.{arith}
 use mathlib.Core.Path.{ap}
-use Prim.Native.Nat.{ℕ, _<_}
-use lib.ListN.{getD}
 use denote.Ref.{now}
 use Rattle.plate.specs.Head.{toldTable}
+use Rattle.record.specs.Bytes.{Bytes}
 use Rattle.load.proofs.Loading.{too-short, ready, loaded}
 use Rattle.load.proofs.load_front.Statement.{statement}
 use Rattle.load.proofs.load_front.Tie as tie
 
--- every element of the input is a byte
-byte : (c : tie.After-shared-slice-known) (i : ℕ) → getD (now (c .before .args .input)) i 0 < 256
+byte : (c : tie.After-shared-slice-known) → Bytes (now (c .before .args .input))
 byte c i = omega (arith, c .shared-slice-known .given i)
 
 fill-requires : tie.Need-fill-requires

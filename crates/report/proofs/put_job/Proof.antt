@@ -3,10 +3,10 @@ use borrow.Author.Needs.{needs}
 use native.Mathlib.Omega.{arith}
 use mathlib.Core.Path.{ap, _∙_}
 use mathlib.Core.List.{List}
-use Prim.Native.Nat.{ℕ, _<_}
-use lib.ListN.{getD}
+use Prim.Native.Nat.{ℕ}
 use denote.Ref.{now}
 use Rattle.text.specs.Sink.{sink, put}
+use Rattle.record.specs.Bytes.{Bytes}
 use Rattle.report.proofs.Printed.{printed}
 use Rattle.report.proofs.Lengths.{file-fits}
 use Rattle.report.proofs.put_job.Statement.{statement}
@@ -15,7 +15,7 @@ use Rattle.report.proofs.put_job.Tie as tie
 returns : tie.Need-returns
 returns c =
     let a = c .before .before .before .before .before .before .before .before .args in
-    let byte : (i : ℕ) → getD (now (a .input)) i 0 < 256 = (λ i. omega (arith, c .before .before .before .before .before .before .before .shared-slice-known .given i)) in
+    let byte : Bytes (now (a .input)) = (λ i. omega (arith, c .before .before .before .before .before .before .before .shared-slice-known .given i)) in
     (c .before .before .before .put-file .ensures ∙ ap (λ (t : List ℕ). put t (sink 0 (now (a .out)))) (printed _ byte), file-fits _ byte)
 
 pub put-job-spec : {M : Type 1} → statement M

@@ -3,9 +3,9 @@ use mathlib.Core.Path.{_≡_}
 use mathlib.Core.Bool.{false, cond}
 use mathlib.Core.List.{List}
 use mathlib.Core.Option.{none}
-use Prim.Native.Nat.{ℕ, zero, suc, _-_, _%_, _<_}
+use Prim.Native.Nat.{ℕ, suc, _-_, _%_, _<_}
 use native.Mathlib.Omega.{arith}
-use borrow.Author.Tests.{le-ltb, lt-leb, ne-eqb, ltb-false, leb-false, eqb-false}
+use borrow.Author.Tests.{le-ltb, ne-eqb, ltb-false, leb-false, eqb-false}
 use lib.Dec.{ltb, leb, eqb}
 use lib.ListN.{length, getD}
 use Rattle.lists.specs.Checks.{first}
@@ -18,7 +18,8 @@ use Rattle.paper.specs.Layer.{Column, IsColumn, columnOf}
 use Rattle.paper.proofs.Thicknesses.{empty-is-zero}
 use Rattle.plate.specs.Settings.{settingsChecks}
 use Rattle.plate.proofs.Sizes.{some-member}
 use Rattle.column.specs.Order.{misplaced, firstMisplaced, columnChecks}
+use Rattle.column.proofs.Order.{none-misplaced}
 
 pub settings-fine : (N T : ℕ) → paper.Settings N T → first (settingsChecks N T) ≡ none
 unfolding settingsChecks
@@ -28,22 +29,11 @@ settings-fine N T s =
     let n : T ≡ 0 → ⊥ = (λ e. let z = empty-is-zero T (s .bits) .1 e in omega (arith, s .some-thickness)) in
     simp (le-ltb N leastHeight l, le-ltb greatestHeight N g, ne-eqb T 0 n)
 
--- a column in order
-misplaced-none : (N : ℕ) (bs : List ℕ) → IsColumn N (columnOf bs) → (k : ℕ) → k < length bs → misplaced N bs k ≡ false
-unfolding misplaced
-misplaced-none N bs c zero l = let w = c .within 0 l in simp (le-ltb N (getD bs 0 0) w)
-misplaced-none N bs c (suc k) l =
-    let w = c .within (suc k) l in
-    let r = c .rising k l in
-    let e : suc k - 1 ≡ k = omega arith in
-    let n : suc k ≡ 0 → ⊥ = (λ z. omega arith) in
-    simp (le-ltb N (getD bs (suc k) 0) w, ne-eqb (suc k) 0 n, e, lt-leb (getD bs (suc k) 0) (getD bs k 0) r)
-
 pub column-fine : (N : ℕ) (column : Column) → IsColumn N column → first (columnChecks N (column .boundaries)) ≡ none
 unfolding columnChecks firstMisplaced
 column-fine N column c =
     let bs = column .boundaries in
-    let e = lowest-none (misplaced N bs) (length bs) (misplaced-none N bs c) in
+    let e = lowest-none (misplaced N bs) (length bs) (none-misplaced bs N (c .within) (c .rising)) in
     let o : length bs % 2 ≡ 1 → ⊥ = (λ q. omega (arith, c .even)) in
     simp (ne-eqb (length bs % 2) 1 o, le-ltb mostBoundaries (length bs) (c .few), e, le-ltb (length bs) (length bs) (omega arith))
 
