@@ -2,13 +2,15 @@
 // past the end of the input reads 0, so that there is a number at every place.
 ghost use mathlib.Core.Path.{_≡_};
 ghost use mathlib.Core.List.{[], _∷_};
-ghost use Prim.Native.Nat.{_+_, _*_};
+ghost use Prim.Native.Nat.{_+_, _*_, _≤_};
 ghost use lib.ListN.{length};
+ghost use lib.Seq.{sets};
 ghost use Rattle.lists.specs.Checks.{first};
 ghost use Rattle.plate.specs.Checked.{saidBy};
 ghost use Rattle.record.specs.Bytes.{le16, le32, words};
 ghost use Rattle.record.specs.Frame.{left, lengthAt, kindAt};
 ghost use Rattle.record.specs.Faults.{tail, frameChecks};
+ghost use Rattle.record.specs.Written.{bytesOf, laidAt};
 use plate::refusal::Checked;
 use plate::refusal::Reason;
 use plate::refusal::refusal_at;
@@ -85,6 +87,35 @@ pub fn read_words(input: &[u8], start: usize, out: &mut [u16])
         out[i] = word_after(input, start, i);
         i += 1;
     }
+}
+
+// Stores numbers of two bytes each, the lower first, from a place on.
+fn store_numbers(out: &mut [u8], at: usize, numbers: &[u16])
+    requires { ⌜ at + 2 * length (now numbers) ≤ length (now out) ⌝ }
+    ensures { λ _. ⌜ now (out .exit) ≡ sets (now (out .entry)) at (bytesOf (now (numbers .entry))) ⌝ }
+{
+    let mut next = at;
+    let mut i: usize = 0;
+    while i < numbers.len() {
+        let number = numbers[i];
+        out[next] = (number % 256) as u8;
+        out[next + 1] = (number / 256) as u8;
+        next += 2;
+        i += 1;
+    }
+}
+
+// Writes numbers of two bytes each from a place on, where the buffer has room for them all.
+pub fn write_numbers(out: &mut [u8], at: usize, numbers: &[u16])
+    ensures { λ _. ⌜ now (out .exit) ≡ laidAt (now (out .entry)) at (bytesOf (now (numbers .entry))) ⌝ }
+{
+    if out.len() < at {
+        return;
+    }
+    if (out.len() - at) / 2 < numbers.len() {
+        return;
+    }
+    store_numbers(out, at, numbers);
 }
 
 // The body length of the record at a place.

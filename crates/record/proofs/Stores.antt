@@ -1,0 +1,52 @@
+-- Bytes stored one after the other from a place on: what is stored in two parts is stored at once. By induction on what is stored. And numbers
+-- of four bytes as two of two. Assumes nothing.
+use mathlib.Core.Path.{_≡_, refl, ap, _∙_}
+use mathlib.Core.List.{List, [], _∷_, _++_}
+use Prim.Native.Nat.{ℕ, suc, _+_, _*_, _/_, _%_, _≤_, _<_}
+use native.Mathlib.Omega.{arith}
+use borrow.Author.Tests.{le-leb, lt-leb}
+use lib.ListN.{length, set}
+use lib.Seq.{sets}
+use Rattle.record.specs.Written.{bytes16, bytes32, bytesOf, laidAt}
+use Rattle.record.proofs.Spelled.{low-byte}
+
+pub stored-behind : (l : List ℕ) (at : ℕ) (xs ys : List ℕ) → sets (sets l at xs) (at + length xs) ys ≡ sets l at (xs ++ ys)
+stored-behind l at [] ys = ap (λ (i : ℕ). sets l i ys) (omega arith)
+stored-behind l at (x ∷ xs) ys = ap (λ (i : ℕ). sets (sets (set l at x) (suc at) xs) i ys) (omega arith) ∙ stored-behind (set l at x) (suc at) xs ys
+
+-- the same where the first part is known by an equation
+pub stored-then : (l m : List ℕ) (at next : ℕ) (xs ys : List ℕ) → m ≡ sets l at xs → next ≡ at + length xs → sets m next ys ≡ sets l at (xs ++ ys)
+stored-then l m at next xs ys e p = (λ i. sets (e i) (p i) ys) ∙ stored-behind l at xs ys
+
+-- ---- in a buffer
+
+-- where there is room
+pub laid : (out : List ℕ) (at : ℕ) (bytes : List ℕ) → at + length bytes ≤ length out → laidAt out at bytes ≡ sets out at bytes
+unfolding laidAt
+laid out at bytes room = simp (le-leb (at + length bytes) (length out) room)
+
+-- and where there is none
+pub unlaid : (out : List ℕ) (at : ℕ) (bytes : List ℕ) → length out < at + length bytes → laidAt out at bytes ≡ out
+unfolding laidAt
+unlaid out at bytes short = simp (lt-leb (at + length bytes) (length out) short)
+
+-- ---- numbers of two bytes and of four
+
+-- two bytes hold a number's remainder by 65,536
+pub remainder : (n : ℕ) → bytes16 (n % 65536) ≡ bytes16 n
+unfolding bytes16
+remainder n =
+    let low : n % 65536 % 256 ≡ n % 256 = omega arith in
+    let quotient : n % 65536 / 256 + 256 * (n / 65536) ≡ n / 256 = omega arith in
+    let high : n % 65536 / 256 % 256 ≡ n / 256 % 256 = low-byte (n % 65536 / 256) (n / 65536) ∙ ap (λ (m : ℕ). m % 256) quotient in
+    rw (low, high)
+
+pub numbers-append : (ms ns : List ℕ) → bytesOf (ms ++ ns) ≡ bytesOf ms ++ bytesOf ns
+unfolding bytesOf bytes16
+numbers-append [] ns = refl
+numbers-append (m ∷ ms) ns = ap (λ (l : List ℕ). bytes16 m ++ l) (numbers-append ms ns)
+
+-- four bytes are two numbers of two
+pub halves : (n : ℕ) → bytesOf (n % 65536 ∷ n / 65536 ∷ []) ≡ bytes32 n
+unfolding bytesOf bytes32 bytes16
+halves n = ap (λ (l : List ℕ). l ++ bytes16 (n / 65536)) (remainder n)
