@@ -5,3 +5,4 @@ pub mod Folding
 pub mod Deciding
 pub mod Ordering
 pub mod Whole
+pub mod Cases

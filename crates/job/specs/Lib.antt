@@ -4,3 +4,5 @@ pub mod Record
 pub mod Fold
 pub mod File
 pub mod Reached
+pub mod Written
+pub mod Remarks
