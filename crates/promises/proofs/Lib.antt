@@ -10,6 +10,8 @@ pub mod Orders
 pub mod Told
 pub mod Places
 pub mod Files
+pub mod Writes
+pub mod Saved
 pub mod Demands
 pub mod Filled
 pub mod Counts

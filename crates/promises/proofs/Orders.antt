@@ -29,6 +29,7 @@ use Rattle.job.specs.declared.Kind.{Kind}
 use Rattle.job.specs.declared.Kind.the-variants as kind
 use Rattle.job.specs.declared.State.{State}
 use Rattle.load.specs.Load.{loading}
+use Rattle.save.specs.Writing.{countChecks, runChecks, writing, sizeAnswer}
 use Rattle.promises.specs.Orders.{numbers, isOneOf, ByLine, CallByLine, bodyLine, recordLine, fileLine, Orders}
 use Rattle.promises.proofs.Refusals.{record-told}
 
@@ -83,7 +84,7 @@ file-numbers lent (done job) = refl
 file-numbers lent (refused number place) = refl
 
 pub orders : Orders
-unfolding clearing adding joining taking planning reading recounting pictureAnswer pictureChecks layerChecks settingsChecks columnChecks short outCell boundChecks tableRest tableChecks overfullCell addRest differ pairChecks outChecks restChecks bothChecks partChecks planRest sizeChecks entryChecks sequenceChecks
+unfolding writing sizeAnswer countChecks runChecks clearing adding joining taking planning reading recounting pictureAnswer pictureChecks layerChecks settingsChecks columnChecks short outCell boundChecks tableRest tableChecks overfullCell addRest differ pairChecks outChecks restChecks bothChecks partChecks planRest sizeChecks entryChecks sequenceChecks
 orders = record {
   clear = λ N T table. call-by-line (clearing N T table) _ refl;
   add = λ held column. call-by-line (adding held column) _ refl;
@@ -95,5 +96,7 @@ orders = record {
   picture = λ N T bs z t. by-line (pictureChecks N T bs z t) _ _ refl;
   motor = λ s z. by-line (heightChecks s z) _ _ refl;
   read-record = λ s st at. rw (record-told s st at) (by-line (recordChecks s st at) (readingAt s st at .what) _ (record-numbers s st at));
+  write-job = λ N T bound run counts out. call-by-line (writing N T bound run counts out) _ refl;
+  job-size = λ counts. by-line (countChecks counts) _ _ refl;
   read-file = λ lent file. call-by-line (loading lent file) (fileLine file) (file-numbers lent file);
 }

@@ -19,6 +19,7 @@ use Rattle.recount.specs.Recount.{recounting}
 use Rattle.job.specs.Record.{Reading, moved, readingAt, recordChecks, readRecord}
 use Rattle.job.specs.declared.State.{State}
 use Rattle.load.specs.Load.{loading}
+use Rattle.save.specs.Writing.{countChecks, writing, sizeAnswer}
 use Rattle.promises.specs.Refusals.{Refusals}
 
 moved-told : (st : State) (at : ℕ) (o : Option Numbered) (r : Reading) → moved st at (toldBy o r) .told ≡ toldBy o (r .what)
@@ -30,7 +31,7 @@ unfolding readRecord
 record-told s st at = moved-told st at (first (recordChecks s st at)) (readingAt s st at)
 
 pub refusals : Refusals
-unfolding pictureAnswer
+unfolding pictureAnswer sizeAnswer
 refusals = record {
   clear = λ N T table. exactly (clearing N T table);
   add = λ held column. exactly (adding held column);
@@ -42,5 +43,7 @@ refusals = record {
   picture = λ N T bs z t. refused-exactly (pictureChecks N T bs z t) _;
   motor = λ s z. refused-exactly (heightChecks s z) _;
   read-record = λ s st at number place. rw (record-told s st at) (refused-exactly (recordChecks s st at) _ number place);
+  write-job = λ N T bound run counts out. exactly (writing N T bound run counts out);
+  job-size = λ counts. refused-exactly (countChecks counts) _;
   read-file = λ lent file. exactly (loading lent file);
 }

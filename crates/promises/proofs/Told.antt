@@ -37,6 +37,7 @@ use Rattle.job.specs.declared.Step.{Step}
 use Rattle.load.specs.Load.{toldLoad, loading}
 use Rattle.load.specs.declared.Loaded.{Loaded}
 use Rattle.load.specs.declared.Loaded.the-variants as loaded
+use Rattle.save.specs.Writing.{writing}
 use Rattle.promises.specs.Told.{Only, Unwritten, Unmoved}
 
 -- a refusal is known by its number and place
@@ -123,6 +124,7 @@ unwritten = record {
   take = λ held other. keeps (taking held other);
   plan = λ held bound lent. keeps (planning held bound lent);
   read-back = λ N T errors thicknesses n out. keeps (reading N T errors thicknesses n out);
+  write-job = λ N T bound run counts out. keeps (writing N T bound run counts out);
   read-file = λ lent file. keeps (loading lent file);
 }
 

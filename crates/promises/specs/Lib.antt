@@ -6,6 +6,7 @@ pub mod Orders
 pub mod Told
 pub mod Files
 pub mod Jobs
+pub mod Saved
 pub mod Groups
 pub mod Ways
 pub mod Mission

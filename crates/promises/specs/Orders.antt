@@ -27,6 +27,8 @@ use Rattle.job.specs.declared.Kind.{Kind}
 use Rattle.job.specs.declared.Kind.the-variants as kind
 use Rattle.job.specs.declared.State.{State}
 use Rattle.load.specs.Load.{loading}
+use Rattle.save.specs.Runs.{fileSize}
+use Rattle.save.specs.Writing.{countChecks, writing, sizeAnswer}
 
 -- the numbers of some checks, in their order
 abbrev pub numbers : List (Check Numbered) → List ℕ
@@ -79,4 +81,6 @@ pub record Orders : Type 0 where
   pub motor : (s : ℕ) (z : ℤ) → ByLine (heightAnswer s z) (heightChecks s z) (over (z *ℤ pos s) 8) (14 ∷ 15 ∷ [])
   pub read-record : (s : List ℕ) (st : State) (at : ℕ)
       → ByLine (readRecord s st at .told) (recordChecks s st at) (readingAt s st at .what) (recordLine (st .ended) (recordKind s at))
+  pub write-job : (N T bound : ℕ) (run counts out : List ℕ) → CallByLine (writing N T bound run counts out) (1 ∷ 2 ∷ 7 ∷ 4 ∷ 3 ∷ 5 ∷ 3 ∷ [])
+  pub job-size : (counts : List ℕ) → ByLine (sizeAnswer counts) (countChecks counts) (fileSize counts) (7 ∷ 4 ∷ [])
   pub read-file : (lent : List ℕ) (file : Told Job) → CallByLine (loading lent file) (fileLine file)

@@ -22,6 +22,7 @@ use Rattle.job.specs.Record.{recordChecks, readRecord}
 use Rattle.job.specs.File.{Job}
 use Rattle.job.specs.declared.State.{State}
 use Rattle.load.specs.Load.{loading}
+use Rattle.save.specs.Writing.{countChecks, writing, sizeAnswer}
 
 -- an answer is a refusal exactly when one of these checks holds and none before it
 abbrev pub Exactly : {X : Type 0} → Told X → List (Check Numbered) → Type 0
@@ -42,4 +43,6 @@ pub record Refusals : Type 0 where
   pub picture : (N T : ℕ) (bs : List ℕ) (z : ℤ) (t : ℕ) → Exactly (pictureAnswer N T bs z t) (pictureChecks N T bs z t)
   pub motor : (s : ℕ) (z : ℤ) → Exactly (heightAnswer s z) (heightChecks s z)
   pub read-record : (s : List ℕ) (st : State) (at : ℕ) → Exactly (readRecord s st at .told) (recordChecks s st at)
+  pub write-job : (N T bound : ℕ) (run counts out : List ℕ) → ByItsList (writing N T bound run counts out)
+  pub job-size : (counts : List ℕ) → Exactly (sizeAnswer counts) (countChecks counts)
   pub read-file : (lent : List ℕ) (file : Told Job) → ByItsList (loading lent file)

@@ -29,6 +29,7 @@ use Rattle.job.specs.declared.State.{State}
 use Rattle.job.specs.declared.Step.{Step}
 use Rattle.load.specs.Load.{toldLoad, loading}
 use Rattle.load.specs.declared.Loaded.{Loaded}
+use Rattle.save.specs.Writing.{writing}
 
 -- an answer is the only one that tells what it tells, so a contract about what is told leaves one answer
 pub record Only : Type 0 where
@@ -53,6 +54,7 @@ pub record Unwritten : Type 0 where
   pub take : (held other : Held) → Keeps (taking held other)
   pub plan : (held : Held) (bound : ℕ) (lent : Sheets) → Keeps (planning held bound lent)
   pub read-back : (N T : ℕ) (errors thicknesses : List ℕ) (n : ℕ) (out : List ℤ) → Keeps (reading N T errors thicknesses n out)
+  pub write-job : (N T bound : ℕ) (run counts out : List ℕ) → Keeps (writing N T bound run counts out)
   pub read-file : (lent : List ℕ) (file : Told Job) → Keeps (loading lent file)
 
 -- a read that is refused moves neither the place nor the state
