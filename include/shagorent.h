@@ -30,7 +30,7 @@ extern "C" {
  * minor version has more functions, or a rule that moved, as its changelog tells. `shagorent_version` answers the library's own, in the form of
  * SHAGORENT_VERSION: ask once that the two agree. */
 #define SHAGORENT_VERSION_MAJOR 4u
-#define SHAGORENT_VERSION_MINOR 0u
+#define SHAGORENT_VERSION_MINOR 1u
 #define SHAGORENT_VERSION_PATCH 0u
 #define SHAGORENT_VERSION (SHAGORENT_VERSION_MAJOR * 10000u + SHAGORENT_VERSION_MINOR * 100u + SHAGORENT_VERSION_PATCH)
 
@@ -54,9 +54,9 @@ extern "C" {
 #define SHAGORENT_DONE 0u
 #define SHAGORENT_HEIGHT 1u          /* height outside 1 to 512; 0 */
 #define SHAGORENT_NO_THICKNESS 2u    /* no thickness allowed; 0 */
-#define SHAGORENT_SHORT_BUFFER 3u    /* a lent buffer shorter than stated; which, from 1, in the order of the parameters, a job's bytes not counted */
-#define SHAGORENT_BOUNDARY_COUNT 4u  /* an odd number of boundaries, or more than 64; the number */
-#define SHAGORENT_BOUNDARY 5u        /* a boundary above the height, or not above the one before; the first such index */
+#define SHAGORENT_SHORT_BUFFER 3u    /* a lent buffer shorter than stated; which, from 1, of those with a stated length, in the order of the parameters */
+#define SHAGORENT_BOUNDARY_COUNT 4u  /* an odd number of boundaries, or more than 64; the number, in writing a job the column */
+#define SHAGORENT_BOUNDARY 5u        /* a boundary above the height, or not above the one before; the first such index, in writing a job the column */
 #define SHAGORENT_CELL 6u            /* a cell out of bounds for the table's column count; the lowest such index */
 #define SHAGORENT_COLUMNS 7u         /* columns beyond 1,000,000; 0 */
 #define SHAGORENT_SETTINGS 8u        /* two tables' settings differ; 0 */
@@ -190,6 +190,21 @@ shagorent_height_reply shagorent_motor_height(uint32_t step, int32_t boundary);
  * first: the height (2 bytes), the set (4), the bound (4). Then columns, kind 2: the boundaries (2 each). Then one of kind 3: the number
  * of columns (4); and then nothing. Kinds from 32768 on are remarks, anywhere before the end. */
 shagorent_job_reply shagorent_read_job(const uint8_t *input, size_t input_length, size_t most, uint32_t *table, size_t table_length);
+
+/* The length of the job file of columns with these counts of boundaries, which is the length to lend for writing it: 22 + 4 * the number of
+ * columns + 2 * the sum of the counts, at most 132,000,022. Refusals 7, 4, as in writing. */
+shagorent_reply shagorent_job_size(const uint16_t *counts, size_t counts_length);
+
+/* Writes a plate as a job file without remarks, which reads as the same settings, bound and columns. The columns come as one run of boundaries,
+ * column after column, and a count of boundaries for each column. A run longer than the counts say is taken, and its rest is not looked at;
+ * bytes of `out` past the file stay as they were. Answers the file's length.
+ * Refusals 1, 2, 7 (more than 1,000,000 columns), 4 (at the first such column, from 0), 3 (at 1: the run is shorter than the counts say), 5 (at
+ * the first such column, from 0), 3 (at 2: `out` is shorter than the file), each judged over all columns before the next. A refused call
+ * has written nothing.
+ *
+ * The planning program, `plan`, takes files of up to 4,096 bytes only. */
+shagorent_reply shagorent_write_job(uint32_t height, uint32_t set, uint32_t bound, const uint16_t *boundaries, size_t boundaries_length,
+                                    const uint16_t *counts, size_t counts_length, uint8_t *out, size_t out_length);
 
 #ifdef __cplusplus
 }

@@ -16,6 +16,7 @@ ghost use Rattle.plan.specs.Plan.{planning, sheetsIn};
 ghost use Rattle.readback.specs.Reading.{reading};
 ghost use Rattle.recount.specs.Recount.{recounting};
 ghost use Rattle.load.specs.Load.{jobOf, loading};
+ghost use Rattle.save.specs.Writing.{writing, sizeAnswer};
 ghost use Rattle.shagorent.specs.Version.{version};
 ghost use Rattle.replies.specs.Replies.{Replies, reply, tableReply, pictureReply, heightReply, jobReply};
 use adding::add_column;
@@ -42,6 +43,8 @@ use replies::refused_reply;
 use replies::reply_of;
 use replies::size_reply;
 use replies::table_reply;
+use save::job_size;
+use save::write_job;
 use table::clear_table;
 
 // The version of these calls, as SHAGORENT_VERSION of include/shagorent.h.
@@ -49,7 +52,7 @@ use table::clear_table;
 pub extern "C" fn shagorent_version() -> u32
     ensures { λ r. ⌜ r ≡ version ⌝ }
 {
-    40000
+    40100
 }
 
 // ---- tables, plans, pictures, motors and jobs
@@ -159,7 +162,28 @@ pub extern "C" fn shagorent_read_job(input: &[u8], most: usize, table: &mut [u32
     job_reply(read_job(input, most, table))
 }
 
-// ---- sizes, for buffers to be lent: of a table, of a sheet, and the greatest count; or refusals 1 and 2
+#[no_mangle]
+pub extern "C" fn shagorent_write_job(
+    height: u32,
+    members: u32,
+    bound: u32,
+    boundaries: &[u16],
+    counts: &[u16],
+    out: &mut [u8],
+) -> Reply
+    ensures { λ r. ⌜ Replies reply (writing height members bound (now (boundaries .entry)) (now (counts .entry)) (now (out .entry))) r (now (out .exit)) ⌝ }
+{
+    reply_of(write_job(height, members, bound, boundaries, counts, out))
+}
+
+// ---- sizes, for buffers to be lent: of a job file; of a table, of a sheet, and the greatest count, or refusals 1 and 2
+
+#[no_mangle]
+pub extern "C" fn shagorent_job_size(counts: &[u16]) -> Reply
+    ensures { λ r. ⌜ r ≡ reply (sizeAnswer (now (counts .entry))) ⌝ }
+{
+    reply_of(job_size(counts))
+}
 
 #[no_mangle]
 pub extern "C" fn shagorent_cells(height: u32, members: u32) -> Reply
