@@ -1,7 +1,7 @@
-"""Document 01 in plain Python: an independent reading, in the document's own order and words.
+"""Document 01 in plain Python, and the requests of document 02 that have landed: an independent reading, in the documents' own order and words.
 
-What the trial programs must print is made from here, by expected-calls, expected-records and expected-jobs. Nothing is taken from the
-library's sources. Voxels are counted one by one, the sequences of a small plate are listed and judged by the definition, and a call asks its
+What the trial programs must print is made from here, by expected-calls, expected-records, expected-saves and expected-jobs. Nothing is taken
+from the library's sources. Voxels are counted one by one, the sequences of a small plate are listed and judged by the definition, and a call asks its
 refusals one after the other in the order that the document names them.
 
 A rule that a request of document 02 moves stands in one place: M in `greatest_count`, what is admissible in `may_start`, `may_end` and
@@ -100,8 +100,12 @@ def greatest_count(plate):
     return (plate.height + 2 * plate.tmax - 2) // plate.tmin
 
 
+def is_wrong_count(count):
+    return count % 2 == 1 or count > MOST_BOUNDARIES
+
+
 def check_count(column):
-    refuse(4, len(column) % 2 == 1 or len(column) > MOST_BOUNDARIES, len(column))
+    refuse(4, is_wrong_count(len(column)), len(column))
 
 
 def check_order(column, height):
@@ -565,6 +569,79 @@ def read_job(data, most, table):
     check_room(1, table, len(plate.cells))
     table[:len(plate.cells)] = table_of(plate, columns)
     return state.head, state.bound
+
+
+def jobs_in(data):
+    """Job files that stand one after the other, each two bytes of length and then its bytes."""
+    at = 0
+    while at < len(data):
+        length, = struct.unpack_from("<H", data, at)
+        yield data[at + 2:at + 2 + length]
+        at += 2 + length
+
+
+# ---- Saving a plate, request a) of document 02
+
+
+def written(height, members, bound, columns):
+    """The job file of settings, a bound and columns."""
+    bodies = [(1, struct.pack("<HII", height, members, bound))]
+    bodies += [(2, struct.pack(f"<{len(column)}H", *column)) for column in columns]
+    bodies += [(3, struct.pack("<I", len(columns)))]
+    return b"".join(struct.pack("<HH", len(body), kind) + body for kind, body in bodies)
+
+
+def columns_in(boundaries, counts):
+    """The columns that stand in one run of boundaries, by one count for each; of a run that is short, as far as it goes."""
+    ends = list(itertools.accumulate(counts))
+    return [boundaries[end - count:end] for end, count in zip(ends, counts)]
+
+
+def check_columns(counts):
+    refuse(7, len(counts) > MOST_COLUMNS)
+
+
+def check_counts(counts):
+    refuse_first(4, counts, lambda _, count: is_wrong_count(count))
+
+
+def check_orders(columns, height):
+    refuse_first(5, columns, lambda _, column: column and holds(check_order, column, height))
+
+
+def file_size(counts):
+    """Of the settings record, of the columns' heads and boundaries, of the end record."""
+    return 14 + 4 * len(counts) + 2 * sum(counts) + 8
+
+
+def saving_checks(height, members, boundaries, counts, out):
+    """The checks of the writer by their names, in their order, each of all columns before the next."""
+    return {
+        "1": lambda: check_height(height),
+        "2": lambda: check_members(members),
+        "7": lambda: check_columns(counts),
+        "4": lambda: check_counts(counts),
+        "3 run": lambda: check_room(1, boundaries, sum(counts)),
+        "5": lambda: check_orders(columns_in(boundaries, counts), height),
+        "3 output": lambda: check_room(2, out, file_size(counts)),
+    }
+
+
+def write_job(height, members, bound, boundaries, counts, out):
+    """Writes the file into a lent output, and answers its length."""
+    for check in saving_checks(height, members, boundaries, counts, out).values():
+        check()
+    data = written(height, members, bound, columns_in(boundaries, counts))
+    assert len(data) == file_size(counts)
+    out[:len(data)] = data
+    return len(data)
+
+
+def job_size(counts):
+    """The length of the output that is to be lent."""
+    check_columns(counts)
+    check_counts(counts)
+    return file_size(counts)
 
 
 # ---- The planning program
