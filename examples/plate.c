@@ -1,18 +1,43 @@
-/* Plans document 01's plate through the library, and prints what the planning program prints for it. */
+/* Plans document 01's plate through the library, and prints what the planning program prints for it. Then saves the plate, and reads it again. */
 #include "shagorent.h"
 
 #include <inttypes.h>
 #include <stdio.h>
+#include <string.h>
 
-enum { HEIGHT = 4, SET = 6, CELLS = 24, ENTRIES = 45, COUNTS = 4 };
+enum { HEIGHT = 4, SET = 6, CELLS = 24, ENTRIES = 45, COUNTS = 4, COLUMNS = 2 };
+
+/* The columns as one run of boundaries, and a count for each column. */
+static const uint16_t boundaries[] = {1, 4, 0, 3}, counts[COLUMNS] = {2, 2};
 
 static int refused(uint32_t number, uint64_t place) {
     printf("refused %" PRIu32 " at %" PRIu64 "\n", number, place);
     return 1;
 }
 
+/* The bytes saved must be document 01's, and what is read from them the table and the head that they were saved from. */
+static int save(const uint32_t *table, shagorent_head head) {
+    static const uint8_t document_01[] = {0x0A, 0, 1, 0, 4, 0, 6, 0, 0, 0, 0xFF, 0xFF, 0xFF, 0xFF, /* settings */
+                                          4, 0, 2, 0, 1, 0, 4, 0, 4, 0, 2, 0, 0, 0, 3, 0,          /* columns */
+                                          4, 0, 3, 0, 2, 0, 0, 0};                                 /* end */
+    uint8_t file[sizeof document_01];
+    uint32_t again[CELLS];
+
+    /* the length to lend, which is known here */
+    shagorent_reply size = shagorent_job_size(counts, COLUMNS);
+    if (size.number != SHAGORENT_DONE) return refused(size.number, size.value);
+    shagorent_reply saved = shagorent_write_job(HEIGHT, SET, SHAGORENT_NO_BOUND, boundaries, 4, counts, COLUMNS, file, sizeof file);
+    if (saved.number != SHAGORENT_DONE) return refused(saved.number, saved.value);
+
+    shagorent_job_reply read = shagorent_read_job(file, saved.value, SHAGORENT_MOST_ENTRIES, again, CELLS);
+    if (read.number != SHAGORENT_DONE) return refused(read.number, read.place);
+    int same = size.value == sizeof file && saved.value == sizeof file && memcmp(file, document_01, sizeof file) == 0 &&
+               read.bound == SHAGORENT_NO_BOUND && memcmp(&read.head, &head, sizeof head) == 0 && memcmp(again, table, sizeof again) == 0;
+    if (!same) fprintf(stderr, "the plate saved is not document 01's\n");
+    return same ? 0 : 1;
+}
+
 int main(void) {
-    static const uint16_t columns[2][2] = {{1, 4}, {0, 3}};
     uint32_t table[CELLS];
     uint64_t errors[ENTRIES], list[COUNTS];
     uint8_t thicknesses[ENTRIES];
@@ -24,8 +49,8 @@ int main(void) {
     }
 
     shagorent_table_reply made = shagorent_clear_table(table, CELLS, HEIGHT, SET);
-    for (int i = 0; made.number == SHAGORENT_DONE && i < 2; i++)
-        made = shagorent_add_column(table, CELLS, made.head, columns[i], 2);
+    for (int i = 0; made.number == SHAGORENT_DONE && i < COLUMNS; i++)
+        made = shagorent_add_column(table, CELLS, made.head, &boundaries[2 * i], counts[i]);
     if (made.number != SHAGORENT_DONE) return refused(made.number, made.place);
     shagorent_head head = made.head;
 
@@ -44,5 +69,5 @@ int main(void) {
         for (uint32_t k = 0; k <= n; k++) printf(" %" PRId32, sequence[k]);
         printf("\n");
     }
-    return 0;
+    return save(table, head);
 }

@@ -1,12 +1,15 @@
-"""Plans document 01's plate through the library by ctypes, and prints what the planning program prints for it.
+"""Plans document 01's plate through the library by ctypes, and prints what the planning program prints for it. Then saves the plate, and reads it
+again.
 
 usage: plate.py PATH-OF-libshagorent.so
 """
 import ctypes as c
+import pathlib
 import sys
 
-VERSION = 40000
+VERSION = 40100
 """Of the header that these declarations follow."""
+COLUMNS = (1, 4), (0, 3)
 
 
 class Head(c.Structure):
@@ -21,6 +24,10 @@ class Reply(c.Structure):
     _fields_ = [("number", c.c_uint32), ("value", c.c_uint64)]
 
 
+class JobReply(c.Structure):
+    _fields_ = [("number", c.c_uint32), ("head", Head), ("bound", c.c_uint32), ("place", c.c_uint64)]
+
+
 def lent(buffer):
     """A buffer as the library takes it: a pointer, and a length in elements."""
     return buffer, c.c_size_t(len(buffer))
@@ -30,21 +37,42 @@ def number(n):
     return c.c_uint32(n)
 
 
+def save(library, height, set_, bound, table):
+    """The bytes saved must be those of document 01's file, and what is read from them the table and the settings that they were saved from."""
+    boundaries = (c.c_uint16 * sum(map(len, COLUMNS)))(*sum(COLUMNS, ()))
+    counts = (c.c_uint16 * len(COLUMNS))(*map(len, COLUMNS))
+    size = library.shagorent_job_size(*lent(counts))
+    assert size.number == 0, (size.number, size.value)
+    file = (c.c_uint8 * size.value)()
+    saved = library.shagorent_write_job(height, set_, bound, *lent(boundaries), *lent(counts), *lent(file))
+    assert (saved.number, saved.value) == (0, size.value), (saved.number, saved.value)
+    assert bytes(file) == pathlib.Path(__file__).with_name("plate.job").read_bytes(), bytes(file).hex()
+
+    again = (c.c_uint32 * len(table))()
+    read = library.shagorent_read_job(*lent(file), c.c_size_t(2**64 - 1), *lent(again))
+    assert read.number == 0, (read.number, read.place)
+    head = read.head.height, read.head.set, read.head.columns, read.bound
+    assert head == (height.value, set_.value, len(COLUMNS), bound.value), head
+    assert list(again) == list(table)
+
+
 def main():
     library = c.CDLL(sys.argv[1])
     library.shagorent_version.restype = c.c_uint32
     assert library.shagorent_version() == VERSION, library.shagorent_version()
     for call in (library.shagorent_clear_table, library.shagorent_add_column):
         call.restype = TableReply
-    for call in (library.shagorent_cells, library.shagorent_entries, library.shagorent_counts, library.shagorent_plan, library.shagorent_read_back):
+    for call in (library.shagorent_cells, library.shagorent_entries, library.shagorent_counts, library.shagorent_plan, library.shagorent_read_back,
+                 library.shagorent_job_size, library.shagorent_write_job):
         call.restype = Reply
+    library.shagorent_read_job.restype = JobReply
     height, set_, no_bound = number(4), number(6), number(2**32 - 1)
     table = (c.c_uint32 * library.shagorent_cells(height, set_).value)()
     entries = library.shagorent_entries(height, set_).value
     counts = library.shagorent_counts(height, set_).value
     errors, thicknesses, leasts = (c.c_uint64 * entries)(), (c.c_uint8 * entries)(), (c.c_uint64 * counts)()
     made = library.shagorent_clear_table(*lent(table), height, set_)
-    for boundaries in ((1, 4), (0, 3)):
+    for boundaries in COLUMNS:
         column = (c.c_uint16 * len(boundaries))(*boundaries)
         made = library.shagorent_add_column(*lent(table), made.head, *lent(column))
         assert made.number == 0, (made.number, made.place)
@@ -56,6 +84,7 @@ def main():
         read = library.shagorent_read_back(height, set_, *lent(errors), *lent(thicknesses), number(n), *lent(sequence))
         assert read.number in (0, 11), (read.number, read.value)
         print(n, *((read.value, *sequence) if read.number == 0 else ("none",)))
+    save(library, height, set_, no_bound, table)
 
 
 if __name__ == "__main__":

@@ -1,6 +1,6 @@
-// Plans document 01's plate through the library, and prints what the planning program prints for it.
+// Plans document 01's plate through the library, and prints what the planning program prints for it. Then saves the plate, and reads it again.
 #[repr(C)]
-#[derive(Clone, Copy)]
+#[derive(Clone, Copy, Debug, PartialEq)]
 struct Head {
     height: u32,
     set: u32,
@@ -20,6 +20,14 @@ struct Reply {
     value: u64,
 }
 
+#[repr(C)]
+struct JobReply {
+    number: u32,
+    head: Head,
+    bound: u32,
+    place: u64,
+}
+
 #[rustfmt::skip]
 #[link(name = "shagorent", kind = "static")]
 extern "C" {
@@ -30,18 +38,23 @@ extern "C" {
         thicknesses: *mut u8, thickness_entries: usize, list: *mut u64, counts: usize) -> Reply;
     fn shagorent_read_back(height: u32, set: u32, errors: *const u64, error_entries: usize,
         thicknesses: *const u8, thickness_entries: usize, count: u32, out: *mut i32, room: usize) -> Reply;
+    fn shagorent_job_size(counts: *const u16, columns: usize) -> Reply;
+    fn shagorent_write_job(height: u32, set: u32, bound: u32, boundaries: *const u16, length: usize,
+        counts: *const u16, columns: usize, out: *mut u8, room: usize) -> Reply;
+    fn shagorent_read_job(input: *const u8, length: usize, most: usize, table: *mut u32, cells: usize) -> JobReply;
 }
 
 // The version of the header that these declarations follow.
-const VERSION: u32 = 40000;
+const VERSION: u32 = 40100;
 const NO_SEQUENCE: u32 = 11;
+const COLUMNS: [[u16; 2]; 2] = [[1, 4], [0, 3]];
 
 fn main() {
     assert_eq!(unsafe { shagorent_version() }, VERSION);
     let (mut table, mut errors, mut thicknesses) = ([0u32; 24], [0u64; 45], [0u8; 45]);
     let (mut list, mut sequence) = ([0u64; 4], [0i32; 5]);
     let mut made = unsafe { shagorent_clear_table(table.as_mut_ptr(), table.len(), 4, 6) };
-    for column in [[1u16, 4], [0, 3]] {
+    for column in COLUMNS {
         assert_eq!((made.number, made.place), (0, 0));
         made = unsafe { shagorent_add_column(table.as_mut_ptr(), table.len(), made.head, column.as_ptr(), column.len()) };
     }
@@ -63,4 +76,24 @@ fn main() {
             number => panic!("refused {number} at {}", read.value),
         }
     }
+    save(&table, made.head);
+}
+
+// The bytes saved must be those of document 01's file, and what is read from them the table and the head that they were saved from.
+fn save(table: &[u32], head: Head) {
+    let (boundaries, counts) = (COLUMNS.concat(), COLUMNS.map(|column| column.len() as u16));
+    let size = unsafe { shagorent_job_size(counts.as_ptr(), counts.len()) };
+    assert_eq!(size.number, 0);
+    let mut file = vec![0; size.value as usize];
+    let saved = unsafe {
+        shagorent_write_job(head.height, head.set, u32::MAX, boundaries.as_ptr(), boundaries.len(),
+            counts.as_ptr(), counts.len(), file.as_mut_ptr(), file.len())
+    };
+    assert_eq!((saved.number, saved.value), (0, size.value));
+    assert_eq!(file, include_bytes!("plate.job"));
+
+    let mut again = vec![0; table.len()];
+    let read = unsafe { shagorent_read_job(file.as_ptr(), file.len(), usize::MAX, again.as_mut_ptr(), again.len()) };
+    assert_eq!((read.number, read.place, read.head, read.bound), (0, 0, head, u32::MAX));
+    assert_eq!(again, table);
 }
