@@ -1,5 +1,5 @@
 // Evidence from outside: document 01 written twice more in plain Rust, quick Rust to be timed beside, and the proved library's C interface.
-// Nothing here was taken from the library's sources; document 01 alone was followed.
+// Nothing here was taken from the library's sources; documents 01 and 02 alone were followed.
 
 pub mod brute;
 pub mod make;

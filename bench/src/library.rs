@@ -1,7 +1,7 @@
 // The proved library's C interface as the caller sees it: the structs and functions of libshagorent.a, and a safe call around each.
 // The answers are kept as they come, so that the fields that should be 0 are compared too.
 
-use crate::plain::{Answer, Filled, Head, Loaded, Picture, Sheets};
+use crate::plain::{Answer, Columns, Filled, Head, Loaded, Picture, Sheets};
 
 #[repr(C)]
 #[derive(Clone, Copy, Debug, PartialEq, Eq)]
@@ -105,6 +105,18 @@ extern "C" {
     ) -> Pictured;
     fn shagorent_motor_height(step: u32, boundary: i32) -> Lifted;
     fn shagorent_read_job(input: *const u8, n: usize, most: usize, table: *mut u32, t: usize) -> JobLoaded;
+    fn shagorent_job_size(counts: *const u16, c: usize) -> Reply;
+    fn shagorent_write_job(
+        height: u32,
+        set: u32,
+        bound: u32,
+        boundaries: *const u16,
+        b: usize,
+        counts: *const u16,
+        c: usize,
+        out: *mut u8,
+        o: usize,
+    ) -> Reply;
     fn shagorent_cells(height: u32, set: u32) -> Reply;
     fn shagorent_entries(height: u32, set: u32) -> Reply;
     fn shagorent_counts(height: u32, set: u32) -> Reply;
@@ -219,6 +231,27 @@ pub fn motor_height(step: u32, boundary: i32) -> Lifted {
 
 pub fn read_job(input: &[u8], most: usize, table: &mut [u32]) -> JobLoaded {
     unsafe { shagorent_read_job(input.as_ptr(), input.len(), most, table.as_mut_ptr(), table.len()) }
+}
+
+pub fn job_size(counts: &[u16]) -> Reply {
+    unsafe { shagorent_job_size(counts.as_ptr(), counts.len()) }
+}
+
+pub fn write_job(height: u32, set: u32, bound: u32, columns: Columns, out: &mut [u8]) -> Reply {
+    let Columns { boundaries, counts } = columns;
+    unsafe {
+        shagorent_write_job(
+            height,
+            set,
+            bound,
+            boundaries.as_ptr(),
+            boundaries.len(),
+            counts.as_ptr(),
+            counts.len(),
+            out.as_mut_ptr(),
+            out.len(),
+        )
+    }
 }
 
 pub fn cells(height: u32, set: u32) -> Reply {

@@ -282,6 +282,58 @@ fn damage_sequence(random: &mut Random, sequence: &mut Vec<i32>) {
     }
 }
 
+// ---- Columns to be saved ----
+
+/// One run of boundaries, column after column, and a count for each column.
+#[derive(Clone)]
+pub struct Run {
+    pub boundaries: Vec<u16>,
+    pub counts: Vec<u16>,
+}
+
+impl Run {
+    pub fn of(columns: &[Vec<u16>]) -> Run {
+        Run { boundaries: columns.concat(), counts: columns.iter().map(|column| column.len() as u16).collect() }
+    }
+
+    /// How many boundaries the counts say.
+    pub fn stated(&self) -> usize {
+        self.counts.iter().map(|&count| usize::from(count)).sum()
+    }
+}
+
+/// Columns as a caller might hand them in to be saved, mostly good.
+pub fn run(random: &mut Random, plate: Plate) -> Run {
+    let some = random.below(30);
+    let number = random.pick(&[0, 1, 2, 3, some, some]);
+    let good = !random.one_in(4);
+    let column = |_| if good { column(random, plate.height) } else { handed_column(random, plate) };
+    let mut run = Run::of(&(0..number).map(column).collect::<Vec<_>>());
+    while random.one_in(3) {
+        damage_run(random, plate, &mut run);
+    }
+    if random.one_in(300) {
+        run.counts.resize(MOST_COLUMNS as usize + random.pick(&[1, 2]), random.pick(&[0, 1]));
+    }
+    run
+}
+
+/// Changes a count or a boundary, or adds columns that the run may not have.
+fn damage_run(random: &mut Random, plate: Plate, run: &mut Run) {
+    let (top, near) = (plate.height as u16, random.within(0, 70) as u16);
+    let count = random.pick(&[near, near, near & !1, 64, 65, 66, 128, 256, 65_534, 65_535]);
+    let boundary = random.pick(&[0, 1, top - 1, top, top + 1, near, top | 256, 65_535]);
+    let column = random.index(run.counts.len().max(1));
+    let place = random.index(run.boundaries.len().max(1));
+    match random.below(5) {
+        0 if column < run.counts.len() => run.counts[column] = count,
+        1 if column < run.counts.len() => run.counts.swap(column, 0),
+        2 if place < run.boundaries.len() => run.boundaries[place] = boundary,
+        3 if place > 0 => run.boundaries.swap(place, place - 1),
+        _ => run.counts.extend(vec![random.pick(&[0, 0, 2, near]); random.pick(&[1, 2, 40])]),
+    }
+}
+
 // ---- Job files ----
 
 pub fn record(file: &mut Vec<u8>, kind: u16, body: &[u8]) {

@@ -1,4 +1,4 @@
-// Document 01 once more, in plain safe Rust: every call by its definition, voxel by voxel and cell by cell.
+// Document 01 once more, and 02's writer of job files, in plain safe Rust: every call by its definition, voxel by voxel and cell by cell.
 // Each call first gives the refusals in document 01's order; only after the last of them is anything lent written.
 // Heights, starts and thicknesses are i64 here, so that no difference of two inputs can overflow.
 
@@ -598,4 +598,74 @@ fn check_nothing_left(input: &[u8], at: usize) -> Answer<()> {
         return refuse(16, at as u64);
     }
     Ok(())
+}
+
+// ---- Saving a plate: document 02, a) ----
+
+/// A plate's columns as they come to be saved: one run of boundaries, column after column, and a count for each column.
+#[derive(Clone, Copy, Debug)]
+pub struct Columns<'a> {
+    pub boundaries: &'a [u16],
+    pub counts: &'a [u16],
+}
+
+impl<'a> Columns<'a> {
+    /// Each column's boundaries; the run is as long as the counts say, or longer.
+    pub fn each(self) -> Vec<&'a [u16]> {
+        let mut left = self.boundaries;
+        let next = |&count: &u16| {
+            let (column, after) = left.split_at(usize::from(count));
+            left = after;
+            column
+        };
+        self.counts.iter().map(next).collect()
+    }
+}
+
+/// 7, and 4 at the column's number.
+fn check_counts(counts: &[u16]) -> Answer<()> {
+    if counts.len() > MOST_COLUMNS as usize {
+        return refuse(7, 0);
+    }
+    let bad = |&count: &u16| count % 2 == 1 || usize::from(count) > MOST_BOUNDARIES;
+    refuse_at(4, counts.iter().position(bad))
+}
+
+/// The bytes of the records: 4 before each body, 10 of settings, 2 for each boundary, 4 at the end.
+pub fn job_size(counts: &[u16]) -> Answer<u64> {
+    check_counts(counts)?;
+    let columns: u64 = counts.iter().map(|&count| 4 + 2 * u64::from(count)).sum();
+    Ok(4 + 10 + columns + 4 + 4)
+}
+
+pub fn write_job(height: u32, set: u32, bound: u32, columns: Columns, out: &mut [u8]) -> Answer<u64> {
+    let plate = Plate::new(height, set)?;
+    check_counts(columns.counts)?;
+    let stated = columns.counts.iter().map(|&count| usize::from(count)).sum();
+    check_lent(&[(columns.boundaries.len(), stated)])?;
+    let columns = columns.each();
+    refuse_at(5, columns.iter().position(|column| check_column(plate, column).is_err()))?;
+    let file = written(plate, bound, &columns);
+    check_lent(&[(0, 0), (out.len(), file.len())])?;
+    out[..file.len()].copy_from_slice(&file);
+    Ok(file.len() as u64)
+}
+
+/// The whole file: settings, the columns, the end.
+fn written(plate: Plate, bound: u32, columns: &[&[u16]]) -> Vec<u8> {
+    let mut file = Vec::new();
+    let height = (plate.height as u16).to_le_bytes();
+    put_record(&mut file, 1, &[&height[..], &plate.set.to_le_bytes(), &bound.to_le_bytes()].concat());
+    for column in columns {
+        let body: Vec<u8> = column.iter().flat_map(|boundary| boundary.to_le_bytes()).collect();
+        put_record(&mut file, 2, &body);
+    }
+    put_record(&mut file, 3, &(columns.len() as u32).to_le_bytes());
+    file
+}
+
+fn put_record(file: &mut Vec<u8>, kind: u16, body: &[u8]) {
+    file.extend((body.len() as u16).to_le_bytes());
+    file.extend(kind.to_le_bytes());
+    file.extend(body);
 }

@@ -1,7 +1,8 @@
-// Document 01's calls in safe Rust written for speed, to be timed beside the library: planners with the count innermost, adding after the
-// source paper's Algorithm 1, scans row by row. All refusals are given, so the work is the same; tests/quick.rs holds them to plain.rs.
+// Document 01's calls, and 02's writer of job files, in safe Rust written for speed, to be timed beside the library: planners with the count
+// innermost, adding after the source paper's Algorithm 1, scans row by row. All refusals are given, so the work is the same; tests/quick.rs
+// holds them to plain.rs.
 
-use crate::plain::{Answer, Filled, Head, Plate, Refusal, Sheets};
+use crate::plain::{Answer, Columns, Filled, Head, Plate, Refusal, Sheets};
 use crate::plain::{MOST_BOUNDARIES, MOST_COLUMNS, NONE};
 
 fn refuse<T>(number: u32, place: usize) -> Answer<T> {
@@ -421,4 +422,90 @@ fn walk_down(plate: Plate, thicknesses: &[u8], end: usize, count: usize) -> Answ
     }
     boundaries[0] = row as i32 - (tmax as i32 - 1);
     Ok(boundaries)
+}
+
+// ---- Writing a job file ----
+
+/// 7 and 4, or how many boundaries the columns have together.
+fn tally(counts: &[u16]) -> Answer<usize> {
+    if counts.len() > MOST_COLUMNS as usize {
+        return refuse(7, 0);
+    }
+    let wrong = |&count: &u16| count % 2 == 1 || usize::from(count) > MOST_BOUNDARIES;
+    if let Some(column) = counts.iter().position(wrong) {
+        return refuse(4, column);
+    }
+    Ok(counts.iter().map(|&count| usize::from(count)).sum())
+}
+
+/// How it is asked whether a column rises.
+#[derive(Clone, Copy, Debug, PartialEq, Eq)]
+pub enum Rising {
+    /// Pair by pair, up to the first that does not rise.
+    PairByPair,
+    /// All pairs whatever is found, which the compiler takes several at a time.
+    AllPairs,
+}
+
+pub fn write_job(rising: Rising, height: u32, set: u32, bound: u32, columns: Columns, out: &mut [u8]) -> Answer<u64> {
+    Plate::new(height, set)?;
+    let Columns { boundaries, counts } = columns;
+    let together = tally(counts)?;
+    if boundaries.len() < together {
+        return refuse(3, 1);
+    }
+    match rising {
+        Rising::PairByPair => check_order(height, columns, |column| column.windows(2).all(|pair| pair[0] < pair[1])),
+        Rising::AllPairs => check_order(height, columns, |column| {
+            column.windows(2).fold(true, |rises, pair| rises & (pair[0] < pair[1]))
+        }),
+    }?;
+    let size = 22 + 4 * counts.len() + 2 * together;
+    if out.len() < size {
+        return refuse(3, 2);
+    }
+    write_settings(&mut out[..14], height, set, bound);
+    write_columns(&mut out[14..size - 8], columns);
+    write_end(&mut out[size - 8..size], counts.len());
+    Ok(size as u64)
+}
+
+/// 5: where a column rises, its last boundary is the greatest.
+fn check_order(height: u32, columns: Columns, rises: impl Fn(&[u16]) -> bool) -> Answer<()> {
+    let mut left = columns.boundaries;
+    for (k, &count) in columns.counts.iter().enumerate() {
+        let (column, after) = left.split_at(usize::from(count));
+        if !rises(column) || column.last().is_some_and(|&last| u32::from(last) > height) {
+            return refuse(5, k);
+        }
+        left = after;
+    }
+    Ok(())
+}
+
+fn write_settings(out: &mut [u8], height: u32, set: u32, bound: u32) {
+    out[..4].copy_from_slice(&[10, 0, 1, 0]);
+    out[4..6].copy_from_slice(&(height as u16).to_le_bytes());
+    out[6..10].copy_from_slice(&set.to_le_bytes());
+    out[10..14].copy_from_slice(&bound.to_le_bytes());
+}
+
+fn write_columns(mut out: &mut [u8], columns: Columns) {
+    let mut left = columns.boundaries;
+    for &count in columns.counts {
+        let (column, after) = left.split_at(usize::from(count));
+        let (record, next) = out.split_at_mut(4 + 2 * column.len());
+        let (head, body) = record.split_at_mut(4);
+        head[..2].copy_from_slice(&(2 * count).to_le_bytes());
+        head[2..].copy_from_slice(&[2, 0]);
+        for (two, boundary) in body.chunks_exact_mut(2).zip(column) {
+            two.copy_from_slice(&boundary.to_le_bytes());
+        }
+        (left, out) = (after, next);
+    }
+}
+
+fn write_end(out: &mut [u8], columns: usize) {
+    out[..4].copy_from_slice(&[4, 0, 3, 0]);
+    out[4..].copy_from_slice(&(columns as u32).to_le_bytes());
 }

@@ -3,7 +3,7 @@
 
 use crate::library::{as_lifted, as_loaded, as_pictured, as_reply, as_tabled};
 use crate::library::{JobLoaded, Lifted, Pictured, Reply, Tabled};
-use crate::plain::{self, Filled, Head, Plate, Refusal, Sheets};
+use crate::plain::{self, Answer, Columns, Filled, Head, Plate, Refusal, Sheets};
 use std::mem::swap;
 use std::slice::{from_raw_parts, from_raw_parts_mut};
 use std::sync::OnceLock;
@@ -42,6 +42,26 @@ pub const FAULTS: &[&str] = &[
     "join: another height is answered",
     "take off: a refusal still answers the settings",
     "read job: the set and the column count are swapped",
+    "job size: the record heads of columns are left out",
+    "job size: 4 comes before 7",
+    "write job: 4 has the count as its place",
+    "write job: 4 and 5 are judged column by column",
+    "write job: 66 boundaries are let through",
+    "write job: a run longer than the counts say is refused",
+    "write job: 5 comes before 3 for the run",
+    "write job: 5 has the boundary's place in the run",
+    "write job: a first boundary is held to the column before",
+    "write job: a boundary above N is let through",
+    "write job: 3 for the output comes before 5",
+    "write job: 3 for the output is at 3",
+    "write job: a byte is written though 5 is answered",
+    "write job: the rest of the output is cleared",
+    "write job: one byte past the file is written",
+    "write job: boundaries lose their high byte",
+    "write job: a column's length is that of its boundaries, not bytes",
+    "write job: the end has two bytes of the column count",
+    "write job: the bound is not written",
+    "write job: a count is written",
 ];
 
 fn fault() -> usize {
@@ -331,6 +351,130 @@ unsafe extern "C" fn shagorent_read_job(
         swap(&mut loaded.head.set, &mut loaded.head.columns);
     }
     loaded
+}
+
+fn refused(number: u32, place: usize) -> Answer<u64> {
+    Err(Refusal { number, place: place as u64 })
+}
+
+#[no_mangle]
+unsafe extern "C" fn shagorent_job_size(counts: *const u16, c: usize) -> Reply {
+    let counts = lent(counts, c);
+    let mut answer = plain::job_size(counts);
+    if is("job size: the record heads of columns are left out") {
+        answer = answer.map(|size| size - 4 * c as u64);
+    }
+    if answer == refused(7, 0) && is("job size: 4 comes before 7") {
+        answer = counts.iter().position(|count| count % 2 == 1).map_or(answer, |column| refused(4, column));
+    }
+    as_reply(answer)
+}
+
+#[no_mangle]
+unsafe extern "C" fn shagorent_write_job(
+    height: u32,
+    set: u32,
+    bound: u32,
+    boundaries: *const u16,
+    b: usize,
+    counts: *const u16,
+    c: usize,
+    out: *mut u8,
+    o: usize,
+) -> Reply {
+    let columns = Columns { boundaries: lent(boundaries, b), counts: lent(counts, c) };
+    let room = lent_mut(out, o);
+    let before = room.to_vec();
+    let answer = plain::write_job(height, set, bound, columns, room);
+    let Ok(size) = answer else {
+        if o > 0
+            && answer.err().is_some_and(|r| r.number == 5)
+            && is("write job: a byte is written though 5 is answered")
+        {
+            room[0] ^= 1;
+        }
+        return as_reply(refused_wrongly(columns, o, answer));
+    };
+    let file = size as usize;
+    write_wrongly(columns, &mut room[..file]);
+    if is("write job: the bound is not written") {
+        room[10..14].copy_from_slice(&before[10..14]);
+    }
+    if is("write job: the rest of the output is cleared") {
+        room[file..].fill(0);
+    }
+    if is("write job: one byte past the file is written") {
+        *out.add(file) = 0;
+    }
+    let told = done_wrongly(columns, answer);
+    if c > 0 && is("write job: a count is written") {
+        *counts.cast_mut() += 2;
+    }
+    as_reply(told)
+}
+
+/// The bytes of the file.
+fn write_wrongly(columns: Columns, file: &mut [u8]) {
+    if is("write job: the end has two bytes of the column count") {
+        let size = file.len();
+        file[size - 2..].fill(0);
+    }
+    let mut at = 14;
+    for &count in columns.counts {
+        let (head, body) = file[at..at + 4 + 2 * usize::from(count)].split_at_mut(4);
+        if is("write job: a column's length is that of its boundaries, not bytes") {
+            head[0] = count as u8;
+        }
+        if is("write job: boundaries lose their high byte") {
+            body.chunks_mut(2).for_each(|two| two[1] = 0);
+        }
+        at += 4 + body.len();
+    }
+}
+
+/// The answer where the file is written.
+fn done_wrongly(columns: Columns, answer: Answer<u64>) -> Answer<u64> {
+    let each = columns.each();
+    if columns.boundaries.len() > each.concat().len() && is("write job: a run longer than the counts say is refused") {
+        return refused(3, 1);
+    }
+    if is("write job: a first boundary is held to the column before") {
+        let is_held =
+            |pair: &[&[u16]]| !pair[0].is_empty() && !pair[1].is_empty() && pair[1][0] <= *pair[0].last().unwrap();
+        return each.windows(2).position(is_held).map_or(answer, |before| refused(5, before + 1));
+    }
+    answer
+}
+
+/// The answer where the file is refused.
+fn refused_wrongly(columns: Columns, room: usize, answer: Answer<u64>) -> Answer<u64> {
+    let Columns { boundaries, counts } = columns;
+    let Refusal { number, place } = answer.expect_err("it is refused");
+    let column = place as usize;
+    let first = counts.first().map_or(0, |&count| usize::from(count)).min(boundaries.len());
+    let falls = boundaries[..first].windows(2).any(|pair| pair[1] <= pair[0]);
+    match (number, place) {
+        (4, _) if is("write job: 4 has the count as its place") => refused(4, counts[column].into()),
+        (4, _) if counts[column] == 66 && is("write job: 66 boundaries are let through") => Ok(0),
+        (4, 1..) if falls && is("write job: 4 and 5 are judged column by column") => refused(5, 0),
+        (3, 1) if falls && is("write job: 5 comes before 3 for the run") => refused(5, 0),
+        (3, 2) if is("write job: 3 for the output is at 3") => refused(3, 3),
+        (5, _) if is("write job: 5 has the boundary's place in the run") => {
+            refused(5, counts[..column].iter().map(|&count| usize::from(count)).sum())
+        }
+        (5, _)
+            if columns.each()[column].is_sorted_by(|a, b| a < b)
+                && is("write job: a boundary above N is let through") =>
+        {
+            Ok(0)
+        }
+        (5, _)
+            if (room as u64) < plain::job_size(counts).unwrap() && is("write job: 3 for the output comes before 5") =>
+        {
+            refused(3, 2)
+        }
+        _ => answer,
+    }
 }
 
 #[no_mangle]

@@ -1,5 +1,5 @@
 // The plain implementation against the listing of every sequence, on many small random plates and bounds: the table, both sheets, the
-// list, every sequence read back, recounts of good and bad sequences, pictures, tables joined and taken off, and job files.
+// list, every sequence read back, recounts of good and bad sequences, pictures, tables joined and taken off, and job files, read and saved.
 
 use bench::brute;
 use bench::plain::*;
@@ -179,7 +179,7 @@ fn groups_agree() {
 fn files_agree() {
     for case in 0..PLATES {
         let (sample, mut random) = sample(case);
-        let file = file_of(&sample, &mut random);
+        let file = file_of(&sample, |file| remark(file, &mut random));
         let mut table = vec![99; sample.table.len()];
         let expected = Loaded { head: sample.head, bound: sample.listed.bound };
         assert_eq!(read_job(&file, 4_096, &mut table), Ok(expected), "case {case}");
@@ -191,25 +191,45 @@ fn files_agree() {
     }
 }
 
+/// What is saved is the file of these columns without remarks, and nothing past it.
+#[test]
+fn saved_files_agree() {
+    for case in 0..PLATES {
+        let (sample, _) = sample(case);
+        let Head { height, set, .. } = sample.head;
+        let mut file = file_of(&sample, |_| ());
+        let boundaries = sample.listed.columns.concat();
+        let counts: Vec<u16> = sample.listed.columns.iter().map(|column| column.len() as u16).collect();
+        let columns = Columns { boundaries: &boundaries, counts: &counts };
+        let mut out = vec![99; file.len() + 5];
+        let size = Ok(file.len() as u64);
+        assert_eq!(job_size(&counts), size, "case {case}");
+        assert_eq!(write_job(height, set, sample.listed.bound, columns, &mut out), size, "case {case}");
+        file.extend([99; 5]);
+        assert_eq!(out, file, "case {case}");
+    }
+}
+
 fn record(file: &mut Vec<u8>, kind: u16, body: &[u8]) {
     file.extend((body.len() as u16).to_le_bytes());
     file.extend(kind.to_le_bytes());
     file.extend(body);
 }
 
-fn file_of(sample: &Sample, random: &mut Random) -> Vec<u8> {
+/// The sample's file, with what `remark` puts before each record.
+fn file_of(sample: &Sample, mut remark: impl FnMut(&mut Vec<u8>)) -> Vec<u8> {
     let mut file = Vec::new();
     let mut settings = (sample.head.height as u16).to_le_bytes().to_vec();
     settings.extend(sample.head.set.to_le_bytes());
     settings.extend(sample.listed.bound.to_le_bytes());
-    remark(&mut file, random);
+    remark(&mut file);
     record(&mut file, 1, &settings);
     for column in &sample.listed.columns {
-        remark(&mut file, random);
+        remark(&mut file);
         let body: Vec<u8> = column.iter().flat_map(|b| b.to_le_bytes()).collect();
         record(&mut file, 2, &body);
     }
-    remark(&mut file, random);
+    remark(&mut file);
     record(&mut file, 3, &(sample.listed.columns.len() as u32).to_le_bytes());
     file
 }

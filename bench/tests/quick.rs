@@ -1,8 +1,8 @@
 // The quick Rust that is timed beside the library gives the plain implementation's answers and cells, on good and damaged input.
 
 use bench::make;
-use bench::plain::{self, Filled, Head, Sheets};
-use bench::quick::{self, Reach};
+use bench::plain::{self, Columns, Filled, Head, Sheets};
+use bench::quick::{self, Reach, Rising};
 use bench::random::Random;
 
 const SEED: u64 = 2;
@@ -91,5 +91,28 @@ fn groups_agree() {
         };
         assert!(run(plain::join_tables) == run(quick::join_tables), "case {case}");
         assert!(run(plain::take_off) == run(quick::take_off), "case {case}");
+    }
+}
+
+#[test]
+fn writing_agrees() {
+    for case in 0..CASES {
+        let mut random = Random::new(SEED, case);
+        let size = make::size(&mut random);
+        let plate = make::plate(&mut random, size);
+        let (height, set) = make::named(&mut random, plate);
+        let run = make::run(&mut random, plate);
+        let room = plain::job_size(&run.counts).unwrap_or(100) as usize;
+        let (length, room) = (make::length(&mut random, run.boundaries.len()), make::length(&mut random, room));
+        let mut boundaries = run.boundaries;
+        boundaries.resize(length, 7);
+        let columns = Columns { boundaries: &boundaries, counts: &run.counts };
+        let mut expected = vec![9; room];
+        let answer = plain::write_job(height, set, 5, columns, &mut expected);
+        for rising in [Rising::PairByPair, Rising::AllPairs] {
+            let mut out = vec![9; room];
+            assert_eq!(quick::write_job(rising, height, set, 5, columns, &mut out), answer, "case {case}");
+            assert!(out == expected, "case {case}");
+        }
     }
 }

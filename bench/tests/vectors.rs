@@ -127,3 +127,24 @@ fn worked_file() {
     assert_eq!(read_job(&file[..29], 45, &mut table), refused(16, 22));
     assert_eq!(read_job(&[], 45, &mut table), refused(16, 0));
 }
+
+#[test]
+fn worked_file_saved() {
+    let columns = |boundaries: &'static [u16], counts: &'static [u16]| Columns { boundaries, counts };
+    let plate = columns(&[1, 4, 0, 3], &[2, 2]);
+    let mut out = [9; 40];
+    assert_eq!(job_size(&[2, 2]), Ok(38));
+    assert_eq!(write_job(4, 6, ANY, plate, &mut out[..37]), refused(3, 2));
+    assert_eq!(out, [9; 40]);
+    assert_eq!(write_job(4, 6, ANY, plate, &mut out), Ok(38));
+    assert_eq!((&out[..38], &out[38..]), (&FILE[..38], &[9, 9][..]));
+    let mut saved = |columns| write_job(4, 6, ANY, columns, &mut out);
+    assert_eq!(saved(columns(&[1, 4, 0, 3, 9, 9], &[2, 2])), Ok(38));
+    assert_eq!(saved(columns(&[], &[])), Ok(22));
+    assert_eq!(saved(columns(&[1, 4, 0], &[2, 2])), refused(3, 1));
+    assert_eq!(saved(columns(&[4, 1, 0], &[2, 3])), refused(4, 1));
+    assert_eq!(saved(columns(&[1, 4, 0, 5], &[2, 2])), refused(5, 1));
+    assert_eq!(job_size(&[64; 1_000_000]), Ok(132_000_022));
+    assert_eq!(job_size(&[66]), refused(4, 0));
+    assert_eq!(job_size(&[65; 1_000_001]), refused(7, 0));
+}

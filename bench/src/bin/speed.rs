@@ -4,8 +4,8 @@
 
 use bench::library;
 use bench::make::{self, Table};
-use bench::plain::{self, Answer, Filled, Head, Plate, Sheets};
-use bench::quick::{self, Reach};
+use bench::plain::{self, Answer, Columns, Filled, Head, Plate, Sheets};
+use bench::quick::{self, Reach, Rising};
 use bench::random::Random;
 use std::hint::black_box;
 use std::time::{Duration, Instant};
@@ -302,6 +302,60 @@ fn reading_back(rounds: usize, name: &str, height: u32, set: u32, times: u32) {
     row(name, unit, &time(rounds, &mut out, &READERS.map(contender)));
 }
 
+// ---- Writing a job file ----
+
+type Writer = fn(Columns, &mut [u8]) -> u64;
+
+fn written_by_library(columns: Columns, out: &mut [u8]) -> u64 {
+    let reply = library::write_job(512, ALL, u32::MAX, columns, out);
+    assert_eq!(reply.number, 0);
+    reply.value
+}
+
+fn written_by_rust(rising: Rising, columns: Columns, out: &mut [u8]) -> u64 {
+    quick::write_job(rising, 512, ALL, u32::MAX, columns, out).expect("the columns are good")
+}
+
+const WRITERS: [Writer; 3] = [
+    written_by_library,
+    |columns, out| written_by_rust(Rising::PairByPair, columns, out),
+    |columns, out| written_by_rust(Rising::AllPairs, columns, out),
+];
+
+/// What each writer answers and leaves, beside the plain one's.
+fn compare_writers(columns: Columns, out: &mut [u8]) {
+    let mut expected = vec![1; out.len()];
+    let size = plain::write_job(512, ALL, u32::MAX, columns, &mut expected).expect("the columns are good");
+    for writer in WRITERS {
+        out.fill(1);
+        assert!(writer(columns, out) == size && *out == expected[..]);
+    }
+}
+
+/// So many columns of so many boundaries each: a thousand, again and again.
+fn writing(rounds: usize, name: &str, columns: usize, boundaries: usize, times: u32) {
+    let some = columns_of(Plate::new(512, ALL).expect("allowed"), boundaries);
+    let run: Vec<u16> = some.iter().cycle().take(columns).flatten().copied().collect();
+    let counts = vec![boundaries as u16; columns];
+    let columns = Columns { boundaries: &run, counts: &counts };
+    let size = plain::job_size(&counts).expect("the counts are good") as usize;
+    let mut out = vec![0; size];
+    compare_writers(columns, &mut out);
+    let contender = |writer: Writer| -> Contender<Vec<u8>> {
+        Box::new(move |out| {
+            clocked(|| {
+                for _ in 0..times {
+                    black_box(writer(black_box(columns), out));
+                }
+            })
+        })
+    };
+    let taken = time(rounds, &mut out, &WRITERS.map(contender));
+    let bytes = size as f64 * f64::from(times);
+    let each: Vec<String> = (0..3).map(|i| format!("{:.2}", bytes / taken.of(i))).collect();
+    println!("| {name}, {size} bytes | {} | {} | {} |", each.join(" | "), taken.ratio(1), taken.ratio(2));
+}
+
 // ---- The tables ----
 
 fn main() {
@@ -325,4 +379,9 @@ fn main() {
     joining_and_taking_off(rounds);
     reading_back(rounds, "reading back every count, µs", 512, ALL, 5);
     reading_back(rounds, "reading back every count, {4..16}, µs", 512, FOUR_TO_SIXTEEN, 20);
+    println!("\n| writing a job file, bytes a ns | library | Rust, pair by pair | all pairs | / pair by pair | / all pairs |");
+    println!("|---|---|---|---|---|---|");
+    writing(rounds, "20,000 columns of 64", 20_000, 64, 2);
+    writing(rounds, "100,000 columns of 2", 100_000, 2, 5);
+    writing(rounds, "100,000 empty columns", 100_000, 0, 10);
 }

@@ -4,7 +4,7 @@
 use crate::lent::{same, Lent};
 use bench::library;
 use bench::make;
-use bench::plain::{self, Filled, Head, Plate, Sheets};
+use bench::plain::{self, Columns, Filled, Head, Plate, Sheets};
 use bench::random::Random;
 
 pub type Outcome = Result<u32, String>;
@@ -27,6 +27,8 @@ pub const CALLS: &[Call] = &[
     Call { name: "picture", refusals: &[1, 2, 4, 5, 13], case: picture },
     Call { name: "motor height", refusals: &[14, 15], case: motor_height },
     Call { name: "read job", refusals: &[16, 1, 2, 17, 4, 5, 3], case: read_job },
+    Call { name: "job size", refusals: &[7, 4], case: job_size },
+    Call { name: "write job", refusals: &[1, 2, 7, 4, 3, 5], case: write_job },
 ];
 
 /// The difference, with the case that shows it.
@@ -361,4 +363,92 @@ pub fn loaded(file: &Lent<u8>, most: usize, table: &Lent<u32>) -> Outcome {
         let (length, cells) = (file.part().len(), table.part().len());
         format!("most {most}, {cells} cells lent, file of {length} bytes {bytes}")
     })
+}
+
+fn job_size(random: &mut Random) -> Outcome {
+    let size = make::size(random);
+    let plate = make::plate(random, size);
+    let run = make::run(random, plate);
+    let counts = Lent::given(random, &run.counts);
+    sized(&counts)
+}
+
+pub fn sized(counts: &Lent<u16>) -> Outcome {
+    let handed = counts.clone();
+    let answer = library::as_reply(plain::job_size(counts.part()));
+    let library = library::job_size(handed.part());
+    let difference = same(answer, library).and_then(|()| handed.agrees("counts", counts));
+    told(difference, answer.number, || format!("job size of counts {}", counts.text()))
+}
+
+fn write_job(random: &mut Random) -> Outcome {
+    let size = make::size(random);
+    let plate = make::plate(random, size);
+    let run = make::run(random, plate);
+    let (height, set) = make::named(random, plate);
+    let any = random.word() as u32;
+    let bound = random.pick(&[u32::MAX, 0, any, any]);
+    let lengths = match plain::job_size(&run.counts) {
+        Ok(size) => [run.stated(), size as usize],
+        Err(_) => [run.boundaries.len(), 100],
+    };
+    let [boundaries, room] = lengths.map(|stated| make::length(random, stated));
+    let saved =
+        Saved { boundaries: Lent::new(random, &run.boundaries, boundaries), counts: Lent::given(random, &run.counts) };
+    let out = Lent::random(random, room);
+    let number = written(height, set, bound, &saved, &out)?;
+    if number == 0 && run.counts.len() * plate.cells() <= MOST_READ {
+        read_again(random, height, set, bound, &saved)?;
+    }
+    Ok(number)
+}
+
+/// How many cells are gone over, at most, where what was written is read again.
+const MOST_READ: usize = 200_000;
+
+/// The two buffers that columns to be saved come in.
+#[derive(Clone)]
+pub struct Saved {
+    pub boundaries: Lent<u16>,
+    pub counts: Lent<u16>,
+}
+
+impl Saved {
+    pub fn parts(&self) -> Columns<'_> {
+        Columns { boundaries: self.boundaries.part(), counts: self.counts.part() }
+    }
+
+    pub fn agrees(&self, expected: &Saved) -> Result<(), String> {
+        self.boundaries.agrees("boundaries", &expected.boundaries)?;
+        self.counts.agrees("counts", &expected.counts)
+    }
+}
+
+/// Writes by both and compares.
+pub fn written(height: u32, set: u32, bound: u32, saved: &Saved, out: &Lent<u8>) -> Outcome {
+    let (handed, mut expected, mut actual) = (saved.clone(), out.clone(), out.clone());
+    let answer = library::as_reply(plain::write_job(height, set, bound, saved.parts(), expected.part_mut()));
+    let library = library::write_job(height, set, bound, handed.parts(), actual.part_mut());
+    let difference =
+        same(answer, library).and_then(|()| actual.agrees("output", &expected)).and_then(|()| handed.agrees(saved));
+    told(difference, answer.number, || {
+        let (boundaries, counts, room) = (saved.boundaries.text(), saved.counts.text(), out.part().len());
+        format!(
+            "height {height}, set {set:#x}, bound {bound}, boundaries {boundaries}, counts {counts}, {room} bytes lent"
+        )
+    })
+}
+
+/// What the library writes, the library reads as the same settings, bound and columns, by the table of those columns.
+fn read_again(random: &mut Random, height: u32, set: u32, bound: u32, saved: &Saved) -> Outcome {
+    let plate = Plate::new(height, set).expect("it was written");
+    let columns: Vec<Vec<u16>> = saved.parts().each().iter().map(|column| column.to_vec()).collect();
+    let expected = make::tabulate(plate, &columns);
+    let mut file = vec![0; library::job_size(saved.counts.part()).value as usize];
+    library::write_job(height, set, bound, saved.parts(), &mut file);
+    let mut table = Lent::random(random, plate.cells());
+    let loaded = library::read_job(&file, usize::MAX, table.part_mut());
+    let wanted = library::as_loaded(Ok(plain::Loaded { head: expected.head, bound }));
+    let cells = if table.part() == expected.cells { Ok(()) } else { Err("another table was read again".to_string()) };
+    told(same(wanted, loaded).and(cells), 0, || format!("height {height}, set {set:#x}, columns {columns:?}"))
 }

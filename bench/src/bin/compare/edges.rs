@@ -1,9 +1,11 @@
-// Cases that are run every time: the limits that document 01 wants run on both sides, every motor height, and a file of 1,000,000 columns.
+// Cases that are run every time: the limits that document 01 wants run on both sides, every motor height, and files of 1,000,000 columns, read
+// and written.
 
-use crate::cases::{added, lifted, loaded, pictured, planned, read, sizes_of, LentSheets, Outcome};
+use crate::cases::{added, lifted, loaded, pictured, planned, read, sized, sizes_of, written};
+use crate::cases::{LentSheets, Outcome, Saved};
 use crate::lent::Lent;
-use bench::make;
-use bench::plain::Plate;
+use bench::make::{self, Run};
+use bench::plain::{self, Plate};
 use bench::random::Random;
 
 pub fn edges(random: &mut Random) -> Result<u64, String> {
@@ -25,6 +27,10 @@ pub fn edges(random: &mut Random) -> Result<u64, String> {
     columns(random, &mut note)?;
     counts(random, &mut note)?;
     files(random, &mut note)?;
+    saved_counts(random, &mut note)?;
+    saved_boundaries(random, &mut note)?;
+    saved_plates(random, &mut note)?;
+    saved_orders(random, &mut note)?;
     Ok(cases)
 }
 
@@ -94,6 +100,105 @@ fn files(random: &mut Random, note: &mut impl FnMut(Outcome) -> Result<(), Strin
         make::end_record(&mut file, columns);
         let file = Lent::given(random, &file);
         note(loaded(&file, usize::MAX, &table))?;
+    }
+    Ok(())
+}
+
+/// The run in a buffer of so many boundaries.
+fn lent_run(random: &mut Random, run: &Run, length: usize) -> Saved {
+    Saved { boundaries: Lent::new(random, &run.boundaries, length), counts: Lent::given(random, &run.counts) }
+}
+
+/// Written into a byte less than the file has, into its own length and into more.
+fn save(
+    random: &mut Random,
+    note: &mut impl FnMut(Outcome) -> Result<(), String>,
+    height: u32,
+    saved: &Saved,
+) -> Result<(), String> {
+    note(sized(&saved.counts))?;
+    let size = plain::job_size(saved.counts.part()).unwrap_or(60) as usize;
+    for room in [size - 1, size, size + 9] {
+        let out = Lent::random(random, room);
+        note(written(height, u32::MAX, u32::MAX, saved, &out))?;
+    }
+    Ok(())
+}
+
+/// Every count of a column from 0 to 70 and far beyond, alone or between good columns, over a run that is short, exact or long.
+fn saved_counts(random: &mut Random, note: &mut impl FnMut(Outcome) -> Result<(), String>) -> Result<(), String> {
+    for count in (0..=70).chain([127, 128, 192, 255, 256, 258, 320, 512, 32_768, 65_534, 65_535]) {
+        let column: Vec<u16> = (0..count).collect();
+        for columns in [vec![column.clone()], vec![vec![1, 4], column.clone(), vec![0, 3]], vec![column; 3]] {
+            let run = Run::of(&columns);
+            let stated = run.stated();
+            for length in [0, stated.saturating_sub(1), stated, stated + 1, stated + 7] {
+                let saved = lent_run(random, &run, length);
+                save(random, note, 512, &saved)?;
+            }
+        }
+    }
+    Ok(())
+}
+
+/// Each boundary of three columns in turn moved to N, above it, to the one before, and below it.
+fn saved_boundaries(random: &mut Random, note: &mut impl FnMut(Outcome) -> Result<(), String>) -> Result<(), String> {
+    for (height, count) in [(1, 2), (4, 4), (63, 64), (64, 64), (255, 6), (256, 6), (512, 64)] {
+        let column: Vec<u16> = (0..count).collect();
+        let good = Run::of(&[column.clone(), column.clone(), column]);
+        let top = height as u16;
+        for place in 0..good.boundaries.len() {
+            let before = if place > 0 { good.boundaries[place - 1] } else { 0 };
+            for value in [top, top + 1, top + 256, 65_535, before, before.saturating_sub(1), 0] {
+                let mut run = good.clone();
+                run.boundaries[place] = value;
+                let saved = lent_run(random, &run, run.stated());
+                save(random, note, height, &saved)?;
+            }
+        }
+    }
+    Ok(())
+}
+
+/// Document 01's plate under every setting at a limit and into every length, and up to 1,000,000 columns and more.
+fn saved_plates(random: &mut Random, note: &mut impl FnMut(Outcome) -> Result<(), String>) -> Result<(), String> {
+    let run = Run::of(&[vec![1, 4], vec![0, 3]]);
+    let saved = lent_run(random, &run, 4);
+    for height in [0, 1, 3, 4, 5, 255, 256, 511, 512, 513, 65_536, 65_540, u32::MAX] {
+        for set in [0, 1, 6, 1 << 31, u32::MAX] {
+            for bound in [0, 1, 65_536, u32::MAX] {
+                for room in 0..45 {
+                    let out = Lent::random(random, room);
+                    note(written(height, set, bound, &saved, &out))?;
+                }
+            }
+        }
+    }
+    for columns in [0, 1, 65_535, 65_536, 999_999, 1_000_000, 1_000_001, 1_048_576] {
+        for column in [vec![], vec![3], vec![2, 3]] {
+            let run = Run::of(&vec![column; columns]);
+            let saved = lent_run(random, &run, run.stated());
+            save(random, note, 3, &saved)?;
+        }
+    }
+    let full = Lent::given(random, &vec![64; 1_000_000]);
+    note(sized(&full))
+}
+
+/// Every set of the writer's seven refusals that hold together, so that each pair of them is seen in its order.
+fn saved_orders(random: &mut Random, note: &mut impl FnMut(Outcome) -> Result<(), String>) -> Result<(), String> {
+    for held in 0..1 << 7 {
+        let holds = |refusal: u32| held >> refusal & 1 == 1;
+        let (height, set) = (if holds(0) { 513 } else { 4 }, if holds(1) { 0 } else { 6 });
+        let first = if holds(2) { vec![4, 1] } else { vec![1, 4] };
+        let last = if holds(3) { vec![0, 1, 2] } else { vec![0, 1] };
+        let mut run = Run::of(&[first, vec![0, 3], last]);
+        if holds(4) {
+            run.counts.resize(1_000_001, 0);
+        }
+        let saved = lent_run(random, &run, run.stated() - usize::from(holds(5)));
+        let out = Lent::random(random, 22 + 4 * 3 + 2 * run.stated() - usize::from(holds(6)));
+        note(written(height, set, 0, &saved, &out))?;
     }
     Ok(())
 }
