@@ -13,7 +13,7 @@ use Rattle.job.specs.declared.Asked.{Asked}
 unfoldable pub settingsRecord : Asked → List ℕ
 settingsRecord a = framed settingsKind (bytes16 (a .height) ++ (bytes32 (a .members) ++ bytes32 (a .bound)))
 
--- 'Kind 2, column: its boundaries, 2 bytes each'
+-- 'Kind 2, column: its boundaries, two bytes each'
 unfoldable pub columnRecord : Column → List ℕ
 columnRecord column = framed columnKind (bytesOf (column .boundaries))
 

@@ -1,5 +1,6 @@
 -- Document 01, 'What comes back', line by line: 'Clear a table: 1, 2, 3' and so on. The numbers of each call's checks, in the order in which they
--- are asked, are those of its line; and every input gets an answer, the call's value or a refusal by one of those numbers. Assumes nothing.
+-- are asked, are those of its line; and every input gets an answer, the call's value or a refusal by one of those numbers. The calls that document
+-- 02 adds have its lines. Assumes nothing.
 use Prim.Native.Nat.{ℕ}
 use mathlib.Core.Path.{_≡_}
 use mathlib.Core.Logic.{_⊎_}
