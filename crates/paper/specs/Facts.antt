@@ -79,8 +79,7 @@ facts =
     ∷ none both free 1
     -- P13
     ∷ motor 15 (minus 1) (minus 1875)
-    -- the rest of what the plate prints: the greatest count, and the counts 3 and 4
-    ∷ counts 4
-    ∷ plan both free 3 2 (minus 2 ∷ pos 0 ∷ pos 2 ∷ pos 4 ∷ [])
-    ∷ plan both free 4 2 (minus 2 ∷ pos 0 ∷ pos 2 ∷ pos 4 ∷ pos 6 ∷ [])
+    -- the rest of what the plate prints by document 02 b): the greatest count, and the count 3
+    ∷ counts 3
+    ∷ plan both free 3 2 (minus 1 ∷ pos 1 ∷ pos 3 ∷ pos 5 ∷ [])
     ∷ []

@@ -5,16 +5,16 @@ use mathlib.Core.Path.{_≡_}
 use mathlib.Core.Logic.{_↔_}
 use mathlib.Core.Bool.{true}
 use mathlib.Core.List.{List, [], _∷_}
-use lib.IntN.{ℤ, pos, negℤ, _+ℤ_}
+use lib.IntN.{ℤ, pos, _+ℤ_}
 use lib.Signed.{_<ℤ_}
-use Rattle.paper.specs.Layer.{Plate, allowed, tmax}
+use Rattle.paper.specs.Layer.{Plate, allowed}
 use Rattle.paper.specs.Sequence.{count, Admissible, error}
 
--- a layer that a sequence can have: from z, of thickness t
+-- a layer that a sequence can have, from z and of thickness t: it ends above 0 and starts below N, so that it holds some of the plate's heights
 pub record Usable (N T : ℕ) (z : ℤ) (t : ℕ) : Type 0 where
-  pub from : negℤ (pos (tmax T)) <ℤ z
-  pub to : (z +ℤ pos t) <ℤ pos (N + tmax T)
   pub member : allowed T t ≡ true
+  pub ends-above : pos 0 <ℤ (z +ℤ pos t)
+  pub starts-below : z <ℤ pos N
 
 -- a group is given by its layers' errors; as a plate it has the height and the thicknesses of the whole
 abbrev pub part : Plate → (ℤ → ℕ → ℕ) → Plate

@@ -1,10 +1,11 @@
--- Document 01, 'Sequence' and 'Which of several'. A sequence is the list of its boundaries z0, z1, .. zn. Nothing here says how one is
--- found. Assumes nothing.
+-- Document 01, 'Sequence' and 'Which of several', with document 02 b), 'Layers with nothing on them'. A sequence is the list of its boundaries
+-- z0, z1, .. zn. Nothing here says how one is found. Assumes nothing.
 use Prim.Native.Nat.{ℕ, zero, suc, _+_, _-_, _*_, _/_, _≤_, _<_}
 use mathlib.Core.Path.{_≡_}
 use mathlib.Core.Logic.{_⊎_}
-use mathlib.Core.Bool.{true}
+use mathlib.Core.Bool.{true, cond}
 use mathlib.Core.List.{List, [], _∷_}
+use lib.Dec.{eqb}
 use lib.ListN.{length, getD}
 use lib.IntN.{ℤ, pos, negℤ, natAbs, _-ℤ_}
 use lib.Signed.{_≤ℤ_, _<ℤ_}
@@ -36,13 +37,17 @@ pub record IsLayer (p : Plate) (bound : ℕ) (a b : ℤ) : Type 0 where
   -- every layer's error is at most the bound
   pub within : p .layerError a (natAbs (b -ℤ a)) ≤ bound
 
--- m layers over one another, started and within the bound as an admissible sequence's are: what such a sequence and the layers counted in
--- an entry of a sheet share
+-- m layers over one another, started, within the bound and each with something on it as an admissible sequence's are: what such a sequence and
+-- the layers counted in an entry of a sheet share
 pub record Stack (p : Plate) (bound : ℕ) (zs : List ℤ) (m : ℕ) : Type 0 where
   -- -tmax < z0 ≤ 0
   pub starts-above : negℤ (pos (tmax (p .T))) <ℤ zs ! 0
   pub starts-by : zs ! 0 ≤ℤ pos 0
   pub layers : (k : ℕ) → k < m → IsLayer p bound (zs ! k) (zs ! suc k)
+  -- 02 b), where there is a layer: z1 above 0 ..
+  pub z1-above : 1 ≤ m → pos 0 <ℤ zs ! 1
+  -- .. and the last boundary but one below N
+  pub before-last-below : 1 ≤ m → zs ! (m - 1) <ℤ pos (p .N)
 
 pub record Admissible (p : Plate) (bound : ℕ) (zs : List ℤ) : Type 0 where
   -- n ≥ 1
@@ -60,9 +65,9 @@ errorUnder p zs (suc k) = errorUnder p zs k + errorAt p zs k
 abbrev pub error : Plate → List ℤ → ℕ
 error p zs = errorUnder p zs (count zs)
 
--- the greatest count asked for, M, is (N + 2·tmax - 2)/tmin rounded down
+-- the greatest count asked for, M, is by 02 b) 1 for N = 1, otherwise (N - 2)/tmin rounded down, plus 2
 unfoldable pub M : ℕ → ℕ → ℕ
-M N T = (N + 2 * tmax T - 2) / tmin T
+M N T = cond (eqb N 1) 1 ((N - 2) / tmin T + 2)
 
 -- of the layers under zk, the last thinner, or as thick and then the same of those under it; or no difference at all
 abbrev pub Thinner : List ℤ → List ℤ → ℕ → Type 0

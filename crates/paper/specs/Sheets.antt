@@ -25,7 +25,7 @@ entryIndex most row m = rowStart most row + m
 abbrev pub missing : ℕ
 missing = 18_446_744_073_709_551_615
 
--- m layers that end at z, started as above and within the bound
+-- m layers that end at z, started as above and within the bound; by 02 b) they meet the same two rules
 pub record Ending (p : Plate) (bound m : ℕ) (z : ℤ) (zs : List ℤ) : Type 0 where
   pub counts : length zs ≡ suc m
   pub ends : zs ! m ≡ z
