@@ -44,7 +44,7 @@ sound N T s =
       entries-are = ap (λ (x : ℕ). x * (M N T + 1)) (omega (arith, s .least-height, s .some-thickness));
       few-entries =
           let h : N + 2 * tmax T - 1 ≤ 575 = omega arith in
-          let w : M N T + 1 ≤ 575 = omega arith in
+          let w : M N T + 1 ≤ 513 = omega arith in
           omega (arith, mul-le-mul h w);
     }
 

@@ -45,10 +45,10 @@ abbrev pub mostCells : ℕ
 mostCells = 18_368
 
 abbrev pub mostCounts : ℕ
-mostCounts = 574
+mostCounts = 512
 
 abbrev pub mostEntries : ℕ
-mostEntries = 330_625
+mostEntries = 294_975
 
 -- what is known of settings that were made: the numbers behind every index and every size
 pub record Sound (s : Settings) : Type 0 where

@@ -68,13 +68,16 @@ pub fn greatest_of(members: u32) -> usize
     0
 }
 
-// The greatest count M of settings in order.
-fn greatest_count(height: usize, members: u32, least: usize, greatest: usize) -> usize
+// The greatest count M of settings in order. A plate one unit high has nothing to take 2 from.
+fn greatest_count(height: usize, members: u32, least: usize) -> usize
     requires { ⌜ PaperSettings height members ⌝ }
-    requires { ⌜ (least ≡ tmin members) × (greatest ≡ tmax members) ⌝ }
+    requires { ⌜ least ≡ tmin members ⌝ }
     ensures { λ r. ⌜ (r ≡ M height members) × (r ≤ mostCounts) ⌝ }
 {
-    (height + 2 * greatest - 2) / least
+    if height == 1 {
+        return 1;
+    }
+    (height - 2) / least + 2
 }
 
 impl Settings {
@@ -99,7 +102,7 @@ impl Settings {
         let least = least_of(members);
         let greatest = greatest_of(members);
         let rows = n + 2 * greatest - 2;
-        let counts = greatest_count(n, members, least, greatest);
+        let counts = greatest_count(n, members, least);
         Made::Good(Settings {
             height: n,
             members,

@@ -85,7 +85,7 @@ new-spec =
     (λ c. omega (arith, few c))
     (λ c. omega (arith, few c))
     (λ c. omega (arith, greatest-some c))
-    (λ c κs. (settings c, (c .before .least-of .ensures, c .greatest-of .ensures)))
+    (λ c κs. (settings c, c .before .least-of .ensures))
     (λ c. omega (arith, good c .few-cells))
     (λ c. omega (arith, few (c .before)))
     (λ c. omega (arith, good c .few-counts))
