@@ -1,15 +1,14 @@
 -- What code over the sheets needs: heights under the lowest start have none, sums are bounded, and a height can have only so many counts
--- and so few, since layers of at least `lo` rise from the lowest row on and those of at most tmax from the highest start. Each by induction
--- on the layers from the top down. Assumes nothing.
-use Prim.Native.Nat.{ℕ, _+_, _-_, _*_, _≤_, _<_}
+-- and so few, since layers of at least `lo` rise from the lowest that ends above 0 and those of at most tmax from the highest start. A sequence's
+-- last layer starts below N, so there are only so many in all. Each by induction on the layers from the top down. Assumes nothing.
+use Prim.Native.Nat.{ℕ, suc, _+_, _-_, _*_, _≤_, _<_}
 use mathlib.Core.Path.{_≡_, refl, _∙_, ap, subst}
 use mathlib.Core.Logic.{_↔_}
 use mathlib.Core.Option.{Option, none, some}
 use mathlib.Core.List.{List, [], _∷_}
 use native.Mathlib.Omega.{arith}
 use lib.ListN.{length}
-use Rattle.plate.specs.Datum.{rowOf}
-use Rattle.sequence.specs.Sequence.{Rules, Layer, Built, errorOf, Sequence, Admissible, count}
+use Rattle.sequence.specs.Sequence.{Rules, lowestEnd, Layer, Built, errorOf, Sequence, Admissible, count}
 use Rattle.sequence.specs.Least.{least, walk}
 use Rattle.sequence.proofs.Layers.{start-from, start-to}
 use Rattle.sequence.proofs.Least.{AtMost, walk-is, least-le}
@@ -47,19 +46,34 @@ least-bound p B f m h e q =
     subst (λ (k : ℕ). e ≤ k * B) (w .counts) (omega (arith, x, w .errs))
 
 -- counts
-pub count-low : (p : Rules) (lo : ℕ) → ((h t : ℕ) → Layer p h t → lo ≤ t) → (h : ℕ) (ts : List ℕ) → Built p h ts → length ts * lo ≤ rowOf (p .tmax) h
-count-low p lo f h [] b = omega arith
-count-low p lo f h (t ∷ ts) b =
-    let x = count-low p lo f (h - t) ts (b .1) in
-    let y = f h t (b .0) in
-    let z = b .0 .above in
-    omega (arith, built-low p (h - t) ts (b .1))
 
-pub count-most : (p : Rules) (lo : ℕ) → ((h t : ℕ) → Layer p h t → lo ≤ t) → (s : Sequence) → Admissible p s → count s * lo ≤ p .height + 2 * p .tmax - 2
-count-most p lo f s a =
-    let x = count-low p lo f (s .top) (s .layers) (a .built) in
-    let y = a .ends .to in
-    omega arith
+-- what is known of every permitted layer: it is at least `lo` thick, ends above 0 and starts below N
+pub record Known (p : Rules) (lo : ℕ) : Type 0 where
+  pub thick : (h t : ℕ) → Layer p h t → lo ≤ t
+  pub above : (h t : ℕ) → Layer p h t → 32 < h
+  pub below : (h t : ℕ) → Layer p h t → h - t < lowestEnd (p .height)
+
+module _ (p : Rules) (lo : ℕ) (known : Known p lo) where
+  -- the lowest layer ends above 0, and those on it rise
+  pub count-low : (h t : ℕ) (ts : List ℕ) → Built p h (t ∷ ts) → length ts * lo + 33 ≤ h
+  count-low h t [] b = omega (arith, known .above h t (b .0))
+  count-low h t (u ∷ us) b =
+      let x = count-low (h - t) u us (b .1) in
+      let y = known .thick h t (b .0) in
+      omega arith
+
+  -- and the last one starts below N
+  pub count-most : (s : Sequence) → Admissible p s → 2 ≤ count s → (count s - 2) * lo + 2 ≤ p .height
+  count-most s a l = go (s .layers) (a .built) l
+    where
+      go : (ts : List ℕ) → Built p (s .top) ts → 2 ≤ length ts → (length ts - 2) * lo + 2 ≤ p .height
+      go [] b l = absurd (omega arith)
+      go (t ∷ []) b l = absurd (omega arith)
+      go (t ∷ u ∷ us) b l =
+          let x = count-low (s .top - t) u us (b .1) in
+          let y = known .below (s .top) t (b .0) in
+          let e : suc (suc (length us)) - 2 ≡ length us = omega arith in
+          rw e (omega arith)
 
 -- and at least as many as the rise asks for
 pub count-high : (p : Rules) (h : ℕ) (ts : List ℕ) → Built p h ts → h ≤ 32 + length ts * p .tmax
@@ -71,9 +85,16 @@ count-high p h (t ∷ ts) b =
     omega arith
 
 -- the counts that a height can have
-pub least-many : (p : Rules) (lo : ℕ) → ((h t : ℕ) → Layer p h t → lo ≤ t) → (m h : ℕ) → rowOf (p .tmax) h < m * lo → least p m h ≡ none
-least-many p lo f m h l =
-    least-none p m h .1 (λ ts e b. let x = count-low p lo f h ts b in let y : length ts * lo ≡ m * lo = ap (λ (k : ℕ). k * lo) e in omega arith)
+pub least-many : (p : Rules) (lo : ℕ) → Known p lo → (m h : ℕ) → h < m * lo + 33 → least p (suc m) h ≡ none
+least-many p lo known m h l = least-none p (suc m) h .1 go
+  where
+    go : (ts : List ℕ) → length ts ≡ suc m → Built p h ts → ⊥
+    go [] e b = omega arith
+    go (t ∷ ts) e b =
+        let x = count-low p lo known h t ts b in
+        let d : length ts ≡ m = omega arith in
+        let y : length ts * lo ≡ m * lo = ap (λ (k : ℕ). k * lo) d in
+        omega arith
 
 pub least-few : (p : Rules) (m h : ℕ) → 32 + m * p .tmax < h → least p m h ≡ none
 least-few p m h l =

@@ -2,11 +2,12 @@
 -- leasts there, so the walk starts at the chosen top, and each thickness that it looks up is that of the chosen last layer. Assumes nothing.
 use Prim.Native.Nat.{ℕ, zero, suc, _+_, _-_, _≤_, _<_}
 use mathlib.Core.Path.{_≡_, refl, _∙_, ap}
-use mathlib.Core.Bool.{true}
+use mathlib.Core.Bool.{true, not}
 use mathlib.Core.Option.{none, some}
 use mathlib.Core.List.{List, _∷_, _++_, map}
 use native.Mathlib.Omega.{arith}
-use lib.Dec.{leb}
+use borrow.Author.Tests.{lt-ltb}
+use lib.Dec.{leb, ltb, eqb}
 use lib.IntN.{ℤ}
 use lib.ListN.{getD}
 use Rattle.lists.specs.Grid.{flat}
@@ -20,7 +21,8 @@ use Rattle.plate.specs.Datum.{heightOf, rowOf, atRow}
 use Rattle.sequence.specs.Sequence.{Rules, lowestEnd, upFrom}
 use Rattle.sequence.specs.Least.{least, last, walk}
 use Rattle.sequence.specs.Rules.{rules, shape}
-use Rattle.sequence.specs.Sheets.{entry, faultUnder, boundariesUnder}
+use Rattle.sequence.specs.Sheets.{entry, readsBack, faultUnder, boundariesUnder}
+use Rattle.sequence.proofs.Layers.{or-right, shape-allowed, shape-above, shape-below, shape-from}
 use Rattle.sequence.proofs.Least.{walk-is, least-step, some-starts}
 use Rattle.sequence.proofs.Bounds.{built-low}
 
@@ -40,6 +42,14 @@ entry-is N T sheet f n holds m h l u v =
     ∙ flat-at (M N T + 1) (λ row k. f k (atRow (tmax T) row)) (rowOf (tmax T) h) m (omega arith)
     ∙ ap (f m) e
 
+-- whatever layer of however many it is, one that has the shape of a layer reads back
+module _ (N T n k h t : ℕ) where
+  pub shape-reads : t ≤ h → shape N T (h - t) t ≡ true → readsBack N T n k h t ≡ true
+  unfolding readsBack
+  shape-reads l e =
+      simp
+      (shape-allowed N T (h - t) t e, lt-ltb 32 (h - t + tmax T) (shape-from N T (h - t) t e), or-right (not (eqb k n)) (ltb (h - t) (lowestEnd N)) (lt-ltb (h - t) (lowestEnd N) (shape-below N T (h - t) t e)), or-right (not (eqb k 1)) (ltb 32 h) (lt-ltb 32 h (omega (arith, shape-above N T (h - t) t e))))
+
 module _ (N T bound : ℕ) (cell : ℕ → ℕ → ℕ) where
   abbrev p : Rules
   p = rules N T bound cell
@@ -48,6 +58,7 @@ module _ (N T bound : ℕ) (cell : ℕ → ℕ → ℕ) where
     -- one step down: the layer that is looked up is the chosen last one, and reads back
     pub record Down (m h e : ℕ) : Type 0 where
       pub is : look (suc m) h ≡ last p (suc m) h
+      pub within : last p (suc m) h ≤ h
       pub reads : shape N T (h - last p (suc m) h) (last p (suc m) h) ≡ true
       pub rest : ℕ
       pub below : least p m (h - last p (suc m) h) ≡ some rest
@@ -61,6 +72,7 @@ module _ (N T bound : ℕ) (cell : ℕ → ℕ → ℕ) where
         let b = built-low p (h - k) (walk p m (h - k)) (w .built) in
         record {
           is = looks (suc m) h l (omega arith) u;
+          within = s .layer .above;
           reads = and-true (shape N T (h - k) k) (leb (cell (h - k) k) bound) (s .layer .allowed) .0;
           rest = s .rest;
           below = s .below;
@@ -68,12 +80,13 @@ module _ (N T bound : ℕ) (cell : ℕ → ℕ → ℕ) where
         }
 
     -- never a fault
-    pub no-fault : (m h e : ℕ) → m ≤ M N T → h < lowestEnd N + tmax T → least p m h ≡ some e → faultUnder look N T m h ≡ none
+    pub no-fault : (n m h e : ℕ) → m ≤ M N T → h < lowestEnd N + tmax T → least p m h ≡ some e → faultUnder look N T n m h ≡ none
     unfolding faultUnder
-    no-fault zero h e l u q = simp (some-starts p h e q .0)
-    no-fault (suc m) h e l u q =
+    no-fault n zero h e l u q = simp (some-starts p h e q .0)
+    no-fault n (suc m) h e l u q =
         let d = down m h e l u q in
-        rw (d .is, d .reads) (no-fault m (h - last p (suc m) h) (d .rest) (omega arith) (d .low) (d .below))
+        let r = shape-reads N T n (suc m) h (last p (suc m) h) (d .within) (d .reads) in
+        rw (d .is, r) (no-fault n m (h - last p (suc m) h) (d .rest) (omega arith) (d .low) (d .below))
 
     -- and the boundaries of the chosen sequence
     pub walked : (m h e : ℕ) (above : List ℕ) → m ≤ M N T → h < lowestEnd N + tmax T → least p m h ≡ some e → (rest : List ℤ)

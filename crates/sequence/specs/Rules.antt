@@ -5,13 +5,10 @@ use lib.Dec.{leb, ltb}
 use Rattle.paper.specs.Layer.{allowed, tmax}
 use Rattle.sequence.specs.Sequence.{Rules, lowestEnd}
 
--- the shape of a layer from h of thickness t, whatever its error is: a thickness in T, from above -tmax, to below N + tmax; for whoever has
--- tmax at hand
-unfoldable pub shapeBy : ℕ → ℕ → ℕ → ℕ → ℕ → Bool
-shapeBy N T greatest h t = allowed T t && (ltb 32 (h + greatest) && ltb (h + t) (lowestEnd N + greatest))
-
+-- the shape of a layer from h of thickness t, whatever its error is: a thickness in T, an end above 0, a start below N. So it holds some of the
+-- plate's heights; and as it is no thicker than tmax, it starts above -tmax and ends below N + tmax
 unfoldable pub shape : ℕ → ℕ → ℕ → ℕ → Bool
-shape N T h t = shapeBy N T (tmax T) h t
+shape N T h t = allowed T t && (ltb 32 (h + t) && ltb h (lowestEnd N))
 
 abbrev pub rules : ℕ → ℕ → ℕ → (ℕ → ℕ → ℕ) → Rules
 rules N T bound cell =

@@ -1,21 +1,20 @@
 -- The sheets of a plan as lists of numbers, and reading a sequence back from two sheets, which may hold anything. Heights are counted from
 -- the datum: h stands for z = h - 32. Assumes nothing.
 use Prim.Native.Nat.{ℕ, zero, suc, _+_, _-_}
-use mathlib.Core.Bool.{cond}
+use mathlib.Core.Bool.{Bool, cond, not, _&&_, _||_}
 use mathlib.Core.Option.{Option, none, some}
 use mathlib.Core.List.{List, _∷_}
-use lib.Dec.{eqb}
+use lib.Dec.{eqb, ltb}
 use lib.IntN.{ℤ}
 use lib.ListN.{getD}
 use Rattle.lists.specs.Best.{Best, bestOf}
 use Rattle.lists.specs.Grid.{flat}
-use Rattle.paper.specs.Layer.{tmax}
+use Rattle.paper.specs.Layer.{allowed, tmax}
 use Rattle.paper.specs.Sequence.{M}
 use Rattle.paper.specs.Sheets.{entryIndex, missing}
 use Rattle.plate.specs.Datum.{heightOf, rowOf, atRow}
 use Rattle.sequence.specs.Sequence.{Rules, starts, lowestEnd}
 use Rattle.sequence.specs.Least.{least, last}
-use Rattle.sequence.specs.Rules.{shape}
 
 -- an entry: the number itself, and 2^64 - 1 where there is none
 abbrev pub mark : Option ℕ → ℕ
@@ -40,13 +39,19 @@ entry N T sheet m h = getD sheet (entryIndex (M N T) (rowOf (tmax T) h) m) 0
 unfoldable pub endOf : ℕ → ℕ → List ℕ → ℕ → Best
 endOf N T errors n = bestOf (λ h. unmark (entry N T errors n h)) (lowestEnd N) (tmax T)
 
--- walking down from h through m layers, whose thicknesses `look` tells: the layer that does not read back, since it has not the shape of one,
--- a thickness in T and a start not below -(tmax - 1); or 0 for an end that is no start, as it is above 0
-unfoldable pub faultUnder : (ℕ → ℕ → ℕ) → ℕ → ℕ → ℕ → ℕ → Option ℕ
-faultUnder look N T zero h = cond (starts (tmax T) h) none (some 0)
-faultUnder look N T (suc m) h =
-    cond (shape N T (h - look (suc m) h) (look (suc m) h))
-    (faultUnder look N T m (h - look (suc m) h))
+-- whether layer k of n, of thickness t and with its end at h, reads back: a thickness in T and a step not below -(tmax - 1); by document 02 b)
+-- layer n also starts below N, and layer 1 also ends above 0
+unfoldable pub readsBack : ℕ → ℕ → ℕ → ℕ → ℕ → ℕ → Bool
+readsBack N T n k h t =
+    (allowed T t && ltb 32 (h - t + tmax T)) && ((not (eqb k n) || ltb (h - t) (lowestEnd N)) && (not (eqb k 1) || ltb 32 h))
+
+-- walking down from h through the m lowest of n layers, whose thicknesses `look` tells: the first layer met that does not read back; or 0 for
+-- an end that is no start, as it is above 0
+unfoldable pub faultUnder : (ℕ → ℕ → ℕ) → ℕ → ℕ → ℕ → ℕ → ℕ → Option ℕ
+faultUnder look N T n zero h = cond (starts (tmax T) h) none (some 0)
+faultUnder look N T n (suc m) h =
+    cond (readsBack N T n (suc m) h (look (suc m) h))
+    (faultUnder look N T n m (h - look (suc m) h))
     (some (suc m))
 
 -- the boundaries of that walk, from the lowest up, and then `above`
