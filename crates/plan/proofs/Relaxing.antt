@@ -1,7 +1,7 @@
 -- One thickness more in a row: a last layer is put on the sequences of the row where it starts, for the counts from `first` up to `end`. Each
 -- entry becomes the better of two (`inside`). With fewer layers those under it would have to be thicker than tmax (`few`), with more
--- thinner than tmin (`many`), so there is no sequence and the entry stays as it is (`out`). Assumes nothing.
-use Prim.Native.Nat.{ℕ, _+_, _-_, _*_, _≤_, _<_}
+-- thinner than tmin or end at 0 or less (`many`), so there is no sequence and the entry stays as it is (`out`). Assumes nothing.
+use Prim.Native.Nat.{ℕ, suc, _+_, _-_, _*_, _≤_, _<_}
 use mathlib.Core.Path.{_≡_, refl, sym, ap, _∙_}
 use mathlib.Core.Bool.{true, cond}
 use mathlib.Core.List.{List, _++_}
@@ -34,7 +34,7 @@ use Rattle.putting.specs.Putting.{sumOrNone, sumAt, betterError, betterThicknes
 use Rattle.putting.proofs.Putting.{error-less, error-keep, thickness-less, thickness-keep}
 use Rattle.plan.specs.Planning.{greatestError, Ready, planRules, tableRules}
 use Rattle.plan.specs.Rows.{errorTo, thicknessTo, RowTo, Under, Permitted}
-use Rattle.plan.proofs.Sums.{layer-thick, sum-most, via-small}
+use Rattle.plan.proofs.Sums.{known, sum-most, via-small}
 use Rattle.plan.proofs.Rows.{via-permitted}
 
 -- an entry with a layer's error more, where that stays below the mark
@@ -66,8 +66,9 @@ pub record Relaxing (table : List ℕ) (bound q t : ℕ) (E F : List ℕ) (first
   pub permitted : Permitted s (tableRules s bound table) q t
   pub row : RowTo s (tableRules s bound table) q (t - 1) (s .counts + 1) E F E F
   pub first-low : first * s .tmax ≤ q - s .tmax
+  pub end-some : 1 ≤ end
   pub end-few : end ≤ s .counts
-  pub end-past : (m : ℕ) → end ≤ m → m < s .counts → q - t < m * s .tmin
+  pub end-past : (m : ℕ) → end ≤ m → q - t < (m - 1) * s .tmin + s .tmax
   -- where the entries of the first count stand, that the layer starts from and that it ends at
   pub from-is : from ≡ entryIndex (s .counts) (q - t) first
   pub to-is : to ≡ entryIndex (s .counts) q first + 1
@@ -85,16 +86,15 @@ module _ {table : List ℕ} {bound q t : ℕ} {E F : List ℕ} {first end from t
   abbrev low : ℕ
   low = atRow (s .tmax) (q - t)
 
-  first-under : first * s .tmin ≤ q - t
-  first-under = omega (arith, mul-le-mul-left first (r .ready .sound .order), r .first-low, r .permitted .thin)
-
   pub first-end : first ≤ end
   first-end = go (decLt end first)
     where
       go : Dec (end < first) → first ≤ end
       go (yes l) =
-          let u : end * s .tmin ≤ first * s .tmin = mul-le-mul-right (s .tmin) (omega arith) in
-          absurd (omega (arith, r .end-past end (omega arith) (omega (arith, first-few s (r .ready .sound) q first (r .under .row) (r .first-low))), first-under))
+          let k = r .ready .sound in
+          let u : (end - 1 + 2) * s .tmax ≤ first * s .tmax = mul-le-mul-right (s .tmax) (omega (arith, r .end-some)) in
+          let v : (end - 1) * s .tmin ≤ (end - 1) * s .tmax = mul-le-mul-left (end - 1) (k .order) in
+          absurd (omega (arith, u, v, add-mul (end - 1) 2 (s .tmax), r .end-past end (omega arith), r .first-low, r .permitted .thin))
       go (no l) = omega arith
 
   -- the counts that the start row cannot have
@@ -105,11 +105,11 @@ module _ {table : List ℕ} {bound q t : ℕ} {E F : List ℕ} {first end from t
       let d : (m + 1) * s .tmax ≤ first * s .tmax = mul-le-mul-right (s .tmax) (omega arith) in
       least-few p m low (rw (← k .greatest) (omega (arith, k .thick, r .first-low, r .permitted .thin)))
 
-  many : (m : ℕ) → end ≤ m → m < s .counts → least p m low ≡ none
-  unfolding planRules
-  many m l u =
-      let k = r .ready .sound in
-      least-many p (s .tmin) (layer-thick s bound table (r .ready)) m low (rw (← k .greatest) (omega (arith, r .end-past m l u, k .thick)))
+  many : (m : ℕ) → end ≤ m → least p m low ≡ none
+  many m l =
+      let e : m ≡ suc (m - 1) = omega (arith, r .end-some) in
+      ap (λ (i : ℕ). least p i low) e
+      ∙ least-many p (s .tmin) (known s bound table (r .ready)) (m - 1) low (omega (arith, r .end-past m l, r .ready .sound .thick))
 
   -- a candidate, and none where the start row has none
   via-is : (m : ℕ) → via p (λ g. least p m g) high t ≡ plus cell (least p m low)
@@ -119,7 +119,7 @@ module _ {table : List ℕ} {bound q t : ℕ} {E F : List ℕ} {first end from t
   out : (i : ℕ) → i < s .counts + 1 → ((m : ℕ) → i ≡ m + 1 → (m < first) ⊎ (end ≤ m)) → bestTo p i high t ≡ bestTo p i high (t - 1)
   out i l e =
       kept p high t i (r .permitted .thick)
-      (λ m j. via-is m ∙ ap (plus cell) (⊎-elim (λ a. few m a) (λ a. many m a (omega arith)) (e m j)))
+      (λ m j. via-is m ∙ ap (plus cell) (⊎-elim (λ a. few m a) (λ a. many m a) (e m j)))
 
   -- such a count's entries are already right
   errors-right : (i : ℕ) → i < s .counts + 1 → bestTo p i high t ≡ bestTo p i high (t - 1) → errorTo s p q t i ≡ getD E (rowStart (s .counts) q + i) 0

@@ -1,6 +1,7 @@
 -- A row of the sheets while it is being filled, from a row by no layer to one by all thicknesses, which holds the least errors and the last
--- thicknesses. A last layer of thickness t that ends at row q starts at row q - t; where it starts at no row, is not permitted
--- there, or the row has no sequence of one layer less, it changes nothing. Then the rows one after the other. Assumes nothing.
+-- thicknesses. At a height of 0 or less the two are the same, since no layer ends there. Over it a last layer of thickness t that ends at row q
+-- starts at row q - t; where it is not permitted there, or the row has no sequence of one layer less, it changes nothing. Then the rows one after
+-- the other. Assumes nothing.
 use Prim.Native.Nat.{ℕ, zero, suc, _+_, _-_, _*_, _≤_, _<_}
 use mathlib.Core.Path.{_≡_, refl, sym, ap, _∙_}
 use mathlib.Core.Bool.{Bool, true, false, cond, _&&_}
@@ -23,12 +24,11 @@ use Rattle.sequence.specs.Sequence.{Rules}
 use Rattle.sequence.specs.Least.{plus, via, bestTo, least, last}
 use Rattle.sequence.specs.Sheets.{mark, errorEntry, thicknessEntry}
 use Rattle.sequence.proofs.BestTo.{kept, none-start, none-apart, none-yet, none-last, whole-value, whole-place}
-use Rattle.sequence.proofs.Bounds.{least-low}
 use Rattle.sequence.proofs.Layers.{start-in, start-high}
 use Rattle.sheets.proofs.Places.{entries-is, row-in}
 use Rattle.plan.specs.Planning.{Ready, planRules, tableRules, plannedErrors, plannedThicknesses}
-use Rattle.plan.specs.Rows.{errorTo, thicknessTo, RowTo, Under, Usable, Permitted, SheetTo}
-use Rattle.plan.proofs.Sums.{via-thin}
+use Rattle.plan.specs.Rows.{errorTo, thicknessTo, RowTo, Under, SheetTo}
+use Rattle.plan.proofs.Sums.{via-empty, via-thin}
 
 -- the row where the last layer starts
 module _ (s : Settings) (bound : ℕ) (table : List ℕ) (ready : Ready s table) where
@@ -45,35 +45,11 @@ module _ (s : Settings) (bound : ℕ) (table : List ℕ) (ready : Ready s table)
       let u : t ≤ atRow (s .tmax) q = omega (arith, ready .sound .thick) in
       rw (start-height q t l, le-leb t (atRow (s .tmax) q) u, e)
 
-  pub permitted : (q t : ℕ) (x : Bool) → 1 ≤ t → t ≤ s .tmax → Usable x s p q t → x ≡ true → Permitted s p q t
-  permitted q t x a b u e = go (decLt q t)
-    where
-      go : Dec (q < t) → Permitted s p q t
-      go (yes l) = absurd (let z : _≡_ {A = Bool} true false = sym e ∙ u .under l in let y : _≡_ {A = ℕ} 0 1 = cc in omega arith)
-      go (no l) = record { thick = a; thin = b; above = omega arith; permitted = sym (u .may-is (omega arith)) ∙ e }
-
-  via-forbidden : (m q t : ℕ) (x : Bool) → t ≤ q → x ≡ p .may (atRow (s .tmax) (q - t)) t → x ≡ false → via p (λ g. least p m g) (atRow (s .tmax) q) t ≡ none
+  -- and one that is not
+  pub via-forbidden : (m q t : ℕ) (x : Bool) → t ≤ q → x ≡ p .may (atRow (s .tmax) (q - t)) t → x ≡ false → via p (λ g. least p m g) (atRow (s .tmax) q) t ≡ none
   via-forbidden m q t x l i e =
       let u : t ≤ atRow (s .tmax) q = omega (arith, ready .sound .thick) in
       rw (start-height q t l, le-leb t (atRow (s .tmax) q) u, ← i, e)
-
-  -- one that would start under the lowest row
-  via-under : (m q t : ℕ) → q < t → via p (λ g. least p m g) (atRow (s .tmax) q) t ≡ none
-  unfolding planRules
-  via-under m q t l =
-      let e : least p m (atRow (s .tmax) q - t) ≡ none = least-low p m (atRow (s .tmax) q - t) (omega (arith, ready .sound .thick, ready .sound .greatest)) in
-      rw e (go (leb t (atRow (s .tmax) q) && p .may (atRow (s .tmax) q - t) t))
-    where
-      go : (b : Bool) → _≡_ {A = Option ℕ} (cond b none none) none
-      go true = refl
-      go false = refl
-
-  pub via-unusable : (m q t : ℕ) (x : Bool) → Usable x s p q t → x ≡ false → via p (λ g. least p m g) (atRow (s .tmax) q) t ≡ none
-  via-unusable m q t x u e = go (decLt q t)
-    where
-      go : Dec (q < t) → via p (λ g. least p m g) (atRow (s .tmax) q) t ≡ none
-      go (yes l) = via-under m q t l
-      go (no l) = via-forbidden m q t x (omega arith) (u .may-is (omega arith)) e
 
   -- a row by no layer: the lowest tmax rows are the start heights
   start-low : (q : ℕ) → q < s .tmax → bestTo p 0 (atRow (s .tmax) q) 0 ≡ found 0 0
@@ -111,6 +87,13 @@ module _ (s : Settings) (bound : ℕ) (table : List ℕ) (ready : Ready s table)
     errors-are = span-as (r .errors-are) _ (λ m l. ap (λ (b : Best). mark (value b)) (sym (e m)));
     thicknesses-are = span-as (r .thicknesses-are) _ (λ m l. ap place (sym (e m)));
   }
+
+  -- a row at 0 or less by no layer is one by all thicknesses
+  pub row-empty : {q n : ℕ} {E₀ F₀ E F : List ℕ} (t : ℕ) → q < s .tmax → RowTo s p q 0 n E₀ F₀ E F → RowTo s p q t n E₀ F₀ E F
+  row-empty zero l r = r
+  row-empty {q} (suc t) l r =
+      row-same (row-as (suc t - 1) (row-empty t l r) (omega arith) (omega arith))
+      (λ m. kept p (atRow (s .tmax) q) (suc t) m (omega arith) (λ i e. via-empty s bound table ready i (atRow (s .tmax) q) (suc t) (omega (arith, ready .sound .thick))))
 
   -- a row by no layer is one by all that are thinner than tmin
   pub row-thin : {q n : ℕ} {E₀ F₀ E F : List ℕ} (t : ℕ) → t < s .tmin → RowTo s p q 0 n E₀ F₀ E F → RowTo s p q t n E₀ F₀ E F

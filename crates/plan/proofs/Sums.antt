@@ -12,11 +12,11 @@ use Rattle.paper.specs.Table.{cellIndex}
 use Rattle.paper.proofs.Thicknesses.{and-true, allowed-from, allowed-tmax, tmin-least}
 use Rattle.plate.specs.Datum.{rowOf}
 use Rattle.plate.specs.declared.settings.Settings.{Settings}
-use Rattle.sequence.specs.Sequence.{Rules, Layer}
+use Rattle.sequence.specs.Sequence.{Rules, lowestEnd}
 use Rattle.sequence.specs.Least.{via, least}
 use Rattle.sequence.specs.Rules.{shape}
-use Rattle.sequence.proofs.Bounds.{least-bound}
-use Rattle.sequence.proofs.Layers.{shape-allowed, shape-from, shape-to}
+use Rattle.sequence.proofs.Bounds.{Known, least-bound}
+use Rattle.sequence.proofs.Layers.{shape-allowed, shape-above, shape-below, shape-from, shape-to}
 use Rattle.sequence.proofs.Least.{via-some}
 use Rattle.sequence.proofs.Marks.{Small}
 use Rattle.table.specs.Cells.{cellFrom}
@@ -51,8 +51,27 @@ module _ (s : Settings) (bound : ℕ) (table : List ℕ) (ready : Ready s table)
   may-thick : (h t : ℕ) → p .may h t ≡ true → s .tmin ≤ t
   may-thick h t e = omega (arith, ready .sound .least, tmin-least _ t (shape-allowed _ _ h t (shape-of h t e)) .1)
 
-  pub layer-thick : (h t : ℕ) → Layer p h t → s .tmin ≤ t
-  layer-thick h t l = may-thick (h - t) t (l .allowed)
+  pub may-below : (h t : ℕ) → p .may h t ≡ true → h < lowestEnd (s .height)
+  may-below h t e = shape-below _ _ h t (shape-of h t e)
+
+  -- what is known of every permitted layer
+  pub known : Known p (s .tmin)
+  unfolding planRules
+  known = record {
+    thick = λ h t l. may-thick (h - t) t (l .allowed);
+    above = λ h t l. omega (arith, l .above, shape-above _ _ (h - t) t (shape-of (h - t) t (l .allowed)));
+    below = λ h t l. may-below (h - t) t (l .allowed);
+  }
+
+  -- no layer ends at 0 or less
+  pub via-empty : (m h t : ℕ) → h ≤ 32 → via p (λ g. least p m g) h t ≡ none
+  via-empty m h t l = go _ refl
+    where
+      go : (o : Option ℕ) → via p (λ g. least p m g) h t ≡ o → via p (λ g. least p m g) h t ≡ none
+      go none e = e
+      go (some d) e =
+          let v = via-some p (λ g. least p m g) h t d e in
+          absurd (omega (arith, v .0, shape-above _ _ (h - t) t (shape-of (h - t) t (v .1))))
 
   -- no layer is thinner than tmin
   pub via-thin : (m h t : ℕ) → t < s .tmin → via p (λ g. least p m g) h t ≡ none

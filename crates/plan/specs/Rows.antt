@@ -1,7 +1,7 @@
 -- The sheets while they are being filled, row by row, and a row thickness by thickness. Row q is the height atRow tmax q. Assumes nothing.
 use Prim.Native.Nat.{ℕ, _+_, _-_, _≤_, _<_}
 use mathlib.Core.Path.{_≡_}
-use mathlib.Core.Bool.{Bool, true, false}
+use mathlib.Core.Bool.{true}
 use mathlib.Core.List.{List}
 use lib.ListN.{length, getD}
 use Rattle.lists.specs.Best.{value, place}
@@ -32,11 +32,6 @@ pub record Under (s : Settings) (p : Rules) (q : ℕ) (errors thicknesses : List
   pub errors-whole : s .entries ≤ length errors
   pub thicknesses-whole : s .entries ≤ length thicknesses
   pub filled : (r m : ℕ) → r < q → m ≤ s .counts → getD errors (entryIndex (s .counts) r m) 0 ≡ mark (least p m (atRow (s .tmax) r))
-
--- what is answered of a layer of thickness t that ends at row q: whether it starts at a row, and is permitted there
-pub record Usable (answer : Bool) (s : Settings) (p : Rules) (q t : ℕ) : Type 0 where
-  pub under : q < t → answer ≡ false
-  pub may-is : t ≤ q → answer ≡ p .may (atRow (s .tmax) (q - t)) t
 
 -- a layer of thickness t that ends at row q starts at a row, and is permitted there
 pub record Permitted (s : Settings) (p : Rules) (q t : ℕ) : Type 0 where

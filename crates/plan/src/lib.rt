@@ -14,7 +14,7 @@ ghost use Rattle.sheets.specs.Entries.{leastEnd};
 ghost use Rattle.sheets.specs.Least.{IsLeast};
 ghost use Rattle.plan.specs.Plan.{planRest, planChecks, planning, sheetsIn};
 ghost use Rattle.plan.specs.Planning.{Ready, tableRules, plannedErrors, plannedThicknesses, plannedList};
-ghost use Rattle.plan.specs.Rows.{errorTo, RowTo, Under, Usable, Permitted, Planned};
+ghost use Rattle.plan.specs.Rows.{errorTo, RowTo, Under, Permitted, Planned};
 use plate::head::Head;
 use plate::refusal::Answer;
 use plate::refusal::Reason;
@@ -48,11 +48,11 @@ fn layer_cell(table: &[u32], s: Settings, start: usize, t: usize) -> u32
     cell_of(table, s.tmax as u32, start as u32, t as u32)
 }
 
-// Whether a layer of thickness t that ends at row q starts at a row, and is permitted there.
+// Whether a layer of thickness t that ends at row q, above 0, is permitted.
 fn may_use(table: &[u32], s: Settings, bound: u32, q: usize, t: usize) -> bool
     requires { ⌜ Ready s (now table) ⌝ }
-    requires { ⌜ (q ≤ s .rows) × (1 ≤ t) × (t ≤ s .tmax) ⌝ }
-    ensures { λ r. ⌜ Usable r s (tableRules s bound (now (table .entry))) q t ⌝ }
+    requires { ⌜ (s .tmax ≤ q) × (q ≤ s .rows) × (1 ≤ t) × (t ≤ s .tmax) ⌝ }
+    ensures { λ r. ⌜ r ≡ tableRules s bound (now (table .entry)) .may (atRow (s .tmax) (q - t)) t ⌝ }
 {
     if !is_layer(s.height as u16, s.members, s.tmax as u16, q as u32, t) {
         return false;
@@ -70,28 +70,25 @@ fn layers_in(s: Settings, rise: usize, t: usize) -> usize
     (rise as u32 / t as u32) as usize
 }
 
-// Past the counts that layers of at least tmin can reach the row `start` by, or the greatest count.
+// Past the counts that the row `start`, below N, can have: at 0 or less no layer ends, and over it layers of at least tmin stand on a lowest one
+// that ends at 1 or more. No count is above the greatest, which is what the highest such row can have and one more.
 fn end_count(s: Settings, start: usize) -> usize
     requires { ⌜ Sound s ⌝ }
-    requires { ⌜ start < s .rows ⌝ }
-    ensures { λ r. ⌜ (r ≤ s .counts) × ((m : ℕ) → r ≤ m → m < s .counts → start < m * s .tmin) ⌝ }
+    requires { ⌜ start + 1 < s .height + s .tmax ⌝ }
+    ensures { λ r. ⌜ (1 ≤ r) × (r ≤ s .counts) × ((m : ℕ) → r ≤ m → start < (m - 1) * s .tmin + s .tmax) ⌝ }
 {
-    let end = layers_in(s, start, s.tmin) + 1;
-    if s.counts < end {
-        return s.counts;
+    if start < s.tmax {
+        return 1;
     }
-    end
+    layers_in(s, start - s.tmax, s.tmin) + 2
 }
 
-// Fewer layers than this do not reach even the lowest row from which a layer ends at row q.
+// Fewer layers than this do not reach even the lowest row from which a layer ends at row q, above 0.
 fn first_count(s: Settings, q: usize) -> usize
     requires { ⌜ Sound s ⌝ }
-    requires { ⌜ q ≤ s .rows ⌝ }
+    requires { ⌜ (s .tmax ≤ q) × (q ≤ s .rows) ⌝ }
     ensures { λ r. ⌜ r * s .tmax ≤ q - s .tmax ⌝ }
 {
-    if q < s.tmax {
-        return 0;
-    }
     layers_in(s, q - s.tmax, s.tmax)
 }
 
@@ -182,7 +179,7 @@ fn step_row(
 )
     requires { ⌜ Ready s (now table) ⌝ }
     requires { ⌜ Under s (tableRules s bound (now table)) q (now errors) (now thicknesses) ⌝ }
-    requires { ⌜ (1 ≤ t) × (t ≤ s .tmax) × (first * s .tmax ≤ q - s .tmax) ⌝ }
+    requires { ⌜ (s .tmax ≤ q) × (1 ≤ t) × (t ≤ s .tmax) × (first * s .tmax ≤ q - s .tmax) ⌝ }
     requires { ⌜ RowTo s (tableRules s bound (now table)) q (t - 1) (s .counts + 1) (now errors) (now thicknesses) (now errors) (now thicknesses) ⌝ }
     ensures { λ _. ⌜ RowTo s (tableRules s bound (now (table .entry))) q t (s .counts + 1) (now (errors .entry)) (now (thicknesses .entry)) (now (errors .exit)) (now (thicknesses .exit)) ⌝ }
 {
@@ -191,7 +188,8 @@ fn step_row(
     }
 }
 
-// Fills row q of both sheets, whose rows under it are filled, and whose thicknesses are cleared: thickness by thickness, from tmin on.
+// Fills row q of both sheets, whose rows under it are filled, and whose thicknesses are cleared: thickness by thickness, from tmin on. No layer ends
+// at 0 or less.
 fn fill_row(
     table: &[u32],
     s: Settings,
@@ -206,6 +204,9 @@ fn fill_row(
     ensures { λ _. ⌜ RowTo s (tableRules s bound (now (table .entry))) q (s .tmax) (s .counts + 1) (now (errors .entry)) (now (thicknesses .entry)) (now (errors .exit)) (now (thicknesses .exit)) ⌝ }
 {
     start_row(table, s, bound, q, errors);
+    if q < s.tmax {
+        return;
+    }
     let first = first_count(s, q);
     let mut t = s.tmin - 1;
     while t < s.tmax {

@@ -1,4 +1,3 @@
 pub mod Lists
 pub mod Places
 pub mod Ends
-pub mod Shaped

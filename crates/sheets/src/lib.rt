@@ -1,14 +1,14 @@
 // What planning, reading back and recounting share: which heights are starts, whether a layer has the shape of one, where an entry of a sheet
 // stands, the entry that stands for none, and the least of some entries.
 ghost use mathlib.Core.Path.{_≡_};
-ghost use Prim.Native.Nat.{_<_};
+ghost use Prim.Native.Nat.{_-_, _<_};
 ghost use lib.ListN.{getD};
 ghost use Rattle.paper.specs.Sheets.{entryIndex, missing};
 ghost use Rattle.plate.specs.Datum.{rowOf, atRow};
+ghost use Rattle.sequence.specs.Rules.{shape};
 ghost use Rattle.sequence.specs.Sequence.{starts};
 ghost use Rattle.sheets.specs.Entries.{leastFrom, leastEnd};
 ghost use Rattle.sheets.specs.Least.{IsLeast};
-ghost use Rattle.sheets.specs.Shaped.{shapeUnder};
 use plate::settings::is_allowed;
 
 // The entry that stands for none.
@@ -59,18 +59,20 @@ pub fn is_start(tmax: usize, h: usize) -> bool
     32 - h < tmax
 }
 
-// Whether a layer of thickness t that ends at a row has the shape of one: asked by the row, whose height need not be found for each thickness.
-// The numbers are as narrow as settings allow, so that no sum overflows.
+// Whether a layer of thickness t that ends at a row has the shape of one: asked by the row, whose height need not be found for each thickness. A row
+// is so far above -tmax, less 1, so that it ends above 0 past tmax, and starts below N under N + tmax + t. The numbers are as narrow as settings
+// allow, so that no sum overflows.
 pub fn is_layer(height: u16, members: u32, tmax: u16, row: u32, t: usize) -> bool
-    ensures { λ r. ⌜ r ≡ shapeUnder height members tmax row t ⌝ }
+    ensures { λ r. ⌜ r ≡ shape height members (atRow tmax row - t) t ⌝ }
 {
     if !is_allowed(members, t) {
         return false;
     }
-    if (row as usize) < t {
+    let end = row as usize + 1;
+    if end <= tmax as usize {
         return false;
     }
-    row as usize + 1 < height as usize + 2 * tmax as usize
+    end < height as usize + tmax as usize + t
 }
 
 // The entry at a place, and NONE past the sheet's end.

@@ -1,9 +1,10 @@
--- `fill_row` meets its contract. The loop's invariant: the row is that by last layers of at most t; none is thinner than tmin. Assumes nothing.
+-- `fill_row` meets its contract. At 0 or less a row by no layer is whole, since no layer ends there. Over it the loop's invariant: the row is that by
+-- last layers of at most t; none is thinner than tmin. Assumes nothing.
 use Prim.Native.Nat.{_+_, _-_, _≤_}
 use native.Mathlib.Omega.{arith}
 use Rattle.plan.specs.Planning.{tableRules}
 use Rattle.plan.specs.Rows.{RowTo}
-use Rattle.plan.proofs.Rows.{row-begun, row-thin, row-self, row-again, row-as, under-row}
+use Rattle.plan.proofs.Rows.{row-begun, row-empty, row-thin, row-self, row-again, row-as, under-row}
 use Rattle.plan.proofs.fill_row.Statement.{statement}
 use Rattle.plan.proofs.fill_row.Tie as tie
 
@@ -14,36 +15,49 @@ Inv-loop table s bound q errors₀ thicknesses₀ first t₀ errors thicknesses 
 abbrev μ-loop : tie.MeasureT-loop
 μ-loop table s bound q errors₀ thicknesses₀ first t₀ errors thicknesses t = s .tmax - t
 
-module _ (l : tie.At-loop Inv-loop μ-loop) where
-  abbrev r : tie.After-start-row Inv-loop μ-loop
-  r = l .before .before .before .before .before
-
+-- past the row by no layer
+module _ (r : tie.After-start-row Inv-loop μ-loop) where
   abbrev s : tie.Start Inv-loop μ-loop
   s = r .before .before .before .before .before
 
   begun : RowTo (s .args .s) (tableRules (s .args .s) (s .args .bound) (s .args .table .now)) (s .args .q) 0 (s .args .s .counts + 1) (s .args .errors .now) (s .args .thicknesses .now) (r .start-row .last .1 .1 .1 .1 .0) (s .args .thicknesses .now)
   begun = row-begun (s .args .s) (s .args .bound) (s .args .table .now) (s .pre .0) (r .start-row .ensures) (s .pre .1 .1)
 
+-- in the loop
+module _ (l : tie.At-loop Inv-loop μ-loop) where
+  abbrev r : tie.After-start-row Inv-loop μ-loop
+  r = l .before .before .before .before .before .before .before
+
+  abbrev o : tie.Start Inv-loop μ-loop
+  o = s r
+
   -- since the row was begun, and since before that
-  so-far : RowTo (s .args .s) (tableRules (s .args .s) (s .args .bound) (s .args .table .now)) (s .args .q) (l .loop .t) (s .args .s .counts + 1) (s .args .errors .now) (s .args .thicknesses .now) (l .loop .errors) (l .loop .thicknesses)
-  so-far = row-again (s .args .s) (s .args .bound) (s .args .table .now) (s .pre .0) begun (l .loop .inv .1)
+  so-far : RowTo (o .args .s) (tableRules (o .args .s) (o .args .bound) (o .args .table .now)) (o .args .q) (l .loop .t) (o .args .s .counts + 1) (o .args .errors .now) (o .args .thicknesses .now) (l .loop .errors) (l .loop .thicknesses)
+  so-far = row-again (o .args .s) (o .args .bound) (o .args .table .now) (o .pre .0) (begun r) (l .loop .inv .1)
+
+-- at 0 or less no layer ends
+returns : tie.Need-returns Inv-loop μ-loop
+returns c =
+    let r = c .before .before .before .before in
+    row-empty (s r .args .s) _ _ (s r .pre .0) (s r .args .s .tmax) (c .if1 .taken) (begun r)
 
 loop-holds : tie.Need-loop-holds Inv-loop μ-loop
 loop-holds c =
-    let r = c .before .before .before .before in
-    let s = r .before .before .before .before .before in
-    let k = s .pre .0 .sound in
-    let b = row-begun (s .args .s) (s .args .bound) (s .args .table .now) (s .pre .0) (r .start-row .ensures) (s .pre .1 .1) in
-    (omega (arith, k .order), row-self (s .args .s) _ _ (s .pre .0) (row-thin (s .args .s) _ _ (s .pre .0) (s .args .s .tmin - 1) (omega (arith, k .thin)) b))
+    let r = c .before .before .before .before .before .before in
+    let k = s r .pre .0 .sound in
+    (omega (arith, k .order), row-self (s r .args .s) _ _ (s r .pre .0) (row-thin (s r .args .s) _ _ (s r .pre .0) (s r .args .s .tmin - 1) (omega (arith, k .thin)) (begun r)))
 
 step-row-requires : tie.Need-step-row-requires Inv-loop μ-loop
 step-row-requires c κs =
     let l = c .before .before .before .before in
-    let a = s l .args in (
-      s l .pre .0,
+    let a = o l .args in (
+      o l .pre .0,
       (
-        under-row (a .s) (a .bound) (a .table .now) (s l .pre .0) (s l .pre .1 .0) (so-far l),
-        ((omega arith, omega arith, l .before .before .first-count .ensures), row-as (a .s) _ _ (s l .pre .0) _ (row-self (a .s) _ _ (s l .pre .0) (l .loop .inv .1)) (omega arith) (omega arith)),
+        under-row (a .s) (a .bound) (a .table .now) (o l .pre .0) (o l .pre .1 .0) (so-far l),
+        (
+          (l .before .before .before .if1 .left, omega arith, omega arith, l .before .before .first-count .ensures),
+          row-as (a .s) _ _ (o l .pre .0) _ (row-self (a .s) _ _ (o l .pre .0) (l .loop .inv .1)) (omega arith) (omega arith),
+        ),
       ),
     )
 
@@ -51,12 +65,12 @@ loop-again : tie.Need-loop-again Inv-loop μ-loop
 loop-again c =
     let k = c .before .before .before .before in
     let l = k .before .before .before .before .before in
-    (omega arith, row-again (s l .args .s) _ _ (s l .pre .0) (l .loop .inv .1) (k .step-row .ensures))
+    (omega arith, row-again (o l .args .s) _ _ (o l .pre .0) (l .loop .inv .1) (k .step-row .ensures))
 
-returns : tie.Need-returns Inv-loop μ-loop
-returns c =
+returns-2 : tie.Need-returns-2 Inv-loop μ-loop
+returns-2 c =
     let l = c .before .before in
-    row-as (s l .args .s) _ _ (s l .pre .0) _ (so-far l) (omega arith) (omega arith)
+    row-as (o l .args .s) _ _ (o l .pre .0) _ (so-far l) (omega arith) (omega arith)
 
 pub fill-row-spec : {M : Type 1} → statement M
 fill-row-spec =
@@ -65,8 +79,10 @@ fill-row-spec =
     Inv-loop
     μ-loop
     (λ c κs. let s = c .before .before .before .before in (s .pre .0, (s .pre .1 .0 .row, s .pre .1 .0 .errors-whole)))
-    (λ c κs. let s = c .before .before .before .before .before .before .before in (s .pre .0 .sound, s .pre .1 .0 .row))
-    (λ c. let s = c .before .before .before .before .before .before .before .before .before in omega (arith, s .pre .0 .sound .thin))
+    (λ c. begun (c .before .before .before .before) .errors-are .long)
+    returns
+    (λ c κs. let r = c .before .before .before .before in (s r .pre .0 .sound, (c .if1 .left, s r .pre .1 .0 .row)))
+    (λ c. let r = c .before .before .before .before .before .before in omega (arith, s r .pre .0 .sound .thin))
     loop-holds
     (λ c. omega arith)
     step-row-requires
@@ -74,4 +90,4 @@ fill-row-spec =
     loop-again
     (λ c. so-far (c .before .before) .errors-are .long)
     (λ c. so-far (c .before .before) .thicknesses-are .long)
-    returns)
+    returns-2)

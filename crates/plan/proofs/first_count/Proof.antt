@@ -2,7 +2,6 @@
 use Prim.Native.Nat.{_-_}
 use native.Mathlib.Nat.{div-mul-le-self}
 use native.Mathlib.Omega.{arith}
-use borrow.Author.Needs.{needs}
 use Rattle.plan.proofs.first_count.Statement.{statement}
 use Rattle.plan.proofs.first_count.Tie as tie
 
@@ -10,6 +9,6 @@ pub first-count-spec : {M : Type 1} → statement M
 first-count-spec =
     tie.close
     (tie.spec
-    (λ c. search needs)
-    (λ c κs. let s = c .before .before .before in (s .pre .0, (omega (arith, s .pre .1), omega (arith, s .pre .0 .thin, s .pre .0 .order), omega arith)))
-    (λ c. let s = c .before .before .before .before in rw (c .layers-in .ensures) (div-mul-le-self (s .args .q - s .args .s .tmax) (s .args .s .tmax))))
+    (λ c. c .before .pre .1 .0)
+    (λ c κs. let s = c .before in (s .pre .0, (omega (arith, s .pre .1 .1), omega (arith, s .pre .0 .thin, s .pre .0 .order), omega arith)))
+    (λ c. let s = c .before .before in rw (c .layers-in .ensures) (div-mul-le-self (s .args .q - s .args .s .tmax) (s .args .s .tmax))))

@@ -1,6 +1,6 @@
--- `is_layer` meets its contract: by the row where the layer ends, the tests of `shapeBy` are that it does not start under the lowest row and
--- that the row is one of the sheet's. Assumes nothing.
-use Prim.Native.Nat.{ℕ, _+_, _-_, _*_, _≤_, _<_}
+-- `is_layer` meets its contract: by the row where the layer ends, an end above 0 is a row from tmax on, and there the rows tell where the layer
+-- starts; under it the layer's heights, cut off at the datum or not, come to at most 0. Assumes nothing.
+use Prim.Native.Nat.{ℕ, _+_, _-_, _≤_, _<_}
 use mathlib.Core.Path.{_≡_, sym, _∙_}
 use mathlib.Core.Bool.{true, false}
 use native.Mathlib.Decide.{decLt}
@@ -11,49 +11,37 @@ use lib.Dec.{ltb}
 use Rattle.paper.specs.Layer.{allowed}
 use Rattle.paper.proofs.Thicknesses.{allowed-to}
 use Rattle.plate.specs.Datum.{atRow}
-use Rattle.sequence.specs.Sequence.{lowestEnd}
-use Rattle.sequence.specs.Rules.{shapeBy}
-use Rattle.sheets.specs.Shaped.{shapeUnder}
+use Rattle.sequence.specs.Rules.{shape}
+use Rattle.sequence.proofs.Layers.{shape-in, shape-barred, shape-low, shape-high}
 use Rattle.sheets.proofs.is_layer.Statement.{statement}
 use Rattle.sheets.proofs.is_layer.Tie as tie
 
-module _ (N T greatest row t : ℕ) where
-  barred : allowed T t ≡ false → false ≡ shapeUnder N T greatest row t
-  unfolding shapeUnder shapeBy
-  barred a = go (decLt row t)
+module _ (N T greatest row t : ℕ) (member : allowed T t ≡ true) where
+  thin : t ≤ 32
+  thin = allowed-to T t member
+
+  low : row < greatest → false ≡ shape N T (atRow greatest row - t) t
+  low l = sym (shape-low N T (atRow greatest row - t) t (omega (arith, thin)))
+
+  starts : greatest ≤ row → ltb (row + 1) (N + greatest + t) ≡ shape N T (atRow greatest row - t) t
+  starts l = go (decLt (row + 1) (N + greatest + t))
     where
-      go : Dec (row < t) → false ≡ shapeUnder N T greatest row t
-      go (yes l) = simp (lt-ltb row t l)
-      go (no l) = simp (le-ltb row t (omega arith), a)
-
-  low : row < t → false ≡ shapeUnder N T greatest row t
-  unfolding shapeUnder
-  low l = simp (lt-ltb row t l)
-
-  abbrev start : ℕ
-  start = atRow greatest row - t
-
-  -- a tmax above 33, which no settings have, would put the lowest rows under the datum; the layer is in shape there
-  ends : allowed T t ≡ true → t ≤ row → ltb (row + 1) (N + 2 * greatest) ≡ shapeUnder N T greatest row t
-  unfolding shapeUnder shapeBy
-  ends a l = simp (le-ltb row t l, a, lt-ltb 32 (start + greatest) (omega arith)) (go (decLt (row + 1) (N + 2 * greatest)))
-    where
-      go : Dec (row + 1 < N + 2 * greatest) → ltb (row + 1) (N + 2 * greatest) ≡ ltb (start + t) (lowestEnd N + greatest)
-      go (yes u) = lt-ltb (row + 1) (N + 2 * greatest) u ∙ sym (lt-ltb (start + t) (lowestEnd N + greatest) (omega (arith, allowed-to T t a)))
-      go (no u) = le-ltb (row + 1) (N + 2 * greatest) (omega arith) ∙ sym (le-ltb (start + t) (lowestEnd N + greatest) (omega arith))
+      go : Dec (row + 1 < N + greatest + t) → ltb (row + 1) (N + greatest + t) ≡ shape N T (atRow greatest row - t) t
+      go (yes u) = lt-ltb (row + 1) (N + greatest + t) u ∙ sym (shape-in N T (atRow greatest row - t) t member (omega (arith, thin)) (omega (arith, thin)))
+      go (no u) = le-ltb (row + 1) (N + greatest + t) (omega arith) ∙ sym (shape-high N T (atRow greatest row - t) t (omega (arith, thin)))
 
 -- past the test on the thickness
-member : (c : tie.Else1) → allowed (c .before .before .args .members) (c .before .before .args .t) ≡ true
-member c = sym (c .before .is-allowed .ensures) ∙ not-false _ (c .if1 .left)
+member-of : (c : tie.Else1) → allowed (c .before .before .args .members) (c .before .before .args .t) ≡ true
+member-of c = sym (c .before .is-allowed .ensures) ∙ not-false _ (c .if1 .left)
 
 pub is-layer-spec : {M : Type 1} → statement M
 is-layer-spec =
     tie.close
     (tie.spec
     (λ c κs. search needs)
-    (λ c. barred _ _ _ _ _ (sym (c .before .is-allowed .ensures) ∙ not-true _ (c .if1 .taken)))
-    (λ c. low _ _ _ _ _ (omega arith))
+    (λ c. sym (shape-barred _ _ _ _ (sym (c .before .is-allowed .ensures) ∙ not-true _ (c .if1 .taken))))
     (λ c. search needs)
+    (λ c. low _ _ _ _ _ (member-of (c .before)) (omega arith))
     (λ c. search needs)
-    (λ c. search needs)
-    (λ c. ends _ _ _ _ _ (member (c .before)) (omega arith)))
+    (λ c. omega (arith, allowed-to _ _ (member-of (c .before))))
+    (λ c. starts _ _ _ _ _ (member-of (c .before)) (omega arith)))
