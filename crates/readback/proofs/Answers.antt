@@ -111,9 +111,9 @@ module _ (N T : ℕ) (errors thicknesses : List ℕ) (n : ℕ) (out : List ℤ) 
       refuses (reading N T errors thicknesses n out) (record { reason = reason.NoSequence; place = 0 }) (q ∙ rest-is)
 
   module _ (e : isNothing (endOf N T errors n) ≡ false) (o : Option ℕ) (top : ℕ) (at : top ≡ place (endOf N T errors n))
-      (q : o ≡ faultUnder (entry N T thicknesses) N T n top) where
+      (q : o ≡ faultUnder (entry N T thicknesses) N T n n top) where
     walk-is : walkFault N T errors thicknesses n ≡ o
-    walk-is = sym (q ∙ ap (faultUnder (entry N T thicknesses) N T n) at)
+    walk-is = sym (q ∙ ap (faultUnder (entry N T thicknesses) N T n n) at)
 
     pub bad-walk : (layer : ℕ) → o ≡ some layer
         → Does (reading N T errors thicknesses n out) (refusal (record { reason = reason.Unreadable; place = layer })) out

@@ -44,7 +44,7 @@ layerOf none = 0
 layerOf (some layer) = layer
 
 abbrev pub walkFault : ℕ → ℕ → List ℕ → List ℕ → ℕ → Option ℕ
-walkFault N T errors thicknesses n = faultUnder (entry N T thicknesses) N T n (place (endOf N T errors n))
+walkFault N T errors thicknesses n = faultUnder (entry N T thicknesses) N T n n (place (endOf N T errors n))
 
 unfoldable pub entryChecks : ℕ → ℕ → List ℕ → List ℕ → ℕ → List (Check Numbered)
 entryChecks N T errors thicknesses n =

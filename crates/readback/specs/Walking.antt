@@ -28,5 +28,5 @@ notedFrom k n heights = map heightOf (slice k (n + 1) heights)
 
 -- how a walk down through n layers ends, and what it noted where it has no fault: the heights of all its boundaries
 pub record Walked (look : ℕ → ℕ → ℕ) (N T n top : ℕ) (walk : Walk) (heights : List ℕ) : Type 0 where
-  pub ends : faultOf walk ≡ faultUnder look N T n top
+  pub ends : faultOf walk ≡ faultUnder look N T n n top
   pub notes : faultOf walk ≡ none → notedFrom 0 n heights ≡ boundariesUnder look n top []

@@ -1,16 +1,18 @@
 // Reading a sequence back from two sheets, which may hold anything.
 ghost use mathlib.Core.Path.{_≡_};
+ghost use mathlib.Core.Bool.{not, _||_};
 ghost use mathlib.Core.List.{_++_};
 ghost use mathlib.Core.Option.{none};
-ghost use Prim.Native.Nat.{_+_, _-_, _<_, _≤_};
+ghost use Prim.Native.Nat.{_+_, _<_, _≤_};
+ghost use lib.Dec.{ltb, eqb};
 ghost use lib.ListN.{length, drop};
 ghost use Rattle.lists.specs.Checks.{first};
 ghost use Rattle.plate.specs.Call.{Does};
 ghost use Rattle.plate.specs.Datum.{atRow};
 ghost use Rattle.plate.specs.Refusal.{told};
 ghost use Rattle.plate.specs.Settings.{Sound, Judges};
-ghost use Rattle.sequence.specs.Rules.{shape};
-ghost use Rattle.sequence.specs.Sheets.{entry};
+ghost use Rattle.sequence.specs.Sequence.{lowestEnd};
+ghost use Rattle.sequence.specs.Sheets.{entry, readsBack};
 ghost use Rattle.sheets.specs.Entries.{leastEnd};
 ghost use Rattle.sheets.specs.Least.{IsLeast};
 ghost use Rattle.readback.specs.Reading.{roomChecks, reading};
@@ -21,11 +23,11 @@ use plate::refusal::Reason;
 use plate::refusal::refusal_at;
 use plate::settings::Made;
 use plate::settings::Settings;
+use plate::settings::is_allowed;
 use sheets::Least;
 use sheets::NONE;
 use sheets::at_row;
 use sheets::entry_index;
-use sheets::is_layer;
 use sheets::is_start;
 use sheets::least_end;
 
@@ -45,12 +47,43 @@ fn thickness_at(thicknesses: &[u8], s: Settings, row: u32, m: usize) -> u32
     thicknesses[at] as u32
 }
 
-// Whether a layer of thickness t that ends at a row has the shape of one.
-fn is_layer_under(s: Settings, row: u32, t: u32) -> bool
+// Whether layer k of n may start at a row: layer n, the first that is met, only below N.
+fn may_start(s: Settings, n: usize, k: usize, row: u32) -> bool
     requires { ⌜ Sound s ⌝ }
-    ensures { λ r. ⌜ r ≡ shape (s .height) (s .members) (atRow (s .tmax) row - t) t ⌝ }
+    ensures { λ r. ⌜ r ≡ not (eqb k n) || ltb (atRow (s .tmax) row) (lowestEnd (s .height)) ⌝ }
 {
-    is_layer(s.height as u16, s.members, s.tmax as u16, row, t as usize)
+    if k != n {
+        return true;
+    }
+    row as usize + 1 < s.height + s.tmax
+}
+
+// Whether layer k may end at a row: layer 1, the last that is met, only above 0.
+fn may_end(s: Settings, k: usize, row: u32) -> bool
+    requires { ⌜ Sound s ⌝ }
+    ensures { λ r. ⌜ r ≡ not (eqb k 1) || ltb 32 (atRow (s .tmax) row) ⌝ }
+{
+    if k != 1 {
+        return true;
+    }
+    s.tmax <= row as usize
+}
+
+// Whether layer k of n, of thickness t and with its end at a row, reads back.
+fn reads_back(s: Settings, n: usize, k: usize, row: u32, t: u32) -> bool
+    requires { ⌜ Sound s ⌝ }
+    ensures { λ r. ⌜ r ≡ readsBack (s .height) (s .members) n k (atRow (s .tmax) row) t ⌝ }
+{
+    if !is_allowed(s.members, t as usize) {
+        return false;
+    }
+    if row < t {
+        return false;
+    }
+    if !may_start(s, n, k, row - t) {
+        return false;
+    }
+    may_end(s, k, row)
 }
 
 // Walks down from the row `top` through n layers, notes each boundary's height, and says how the walk ends. Each step waits for the one
@@ -67,7 +100,7 @@ fn walk_down(thicknesses: &[u8], s: Settings, n: usize, top: u32, heights: &mut 
         let h = at_row(s.tmax as u32, row);
         heights[k] = h as u16;
         let t = thickness_at(thicknesses, s, row, k);
-        if !is_layer_under(s, row, t) {
+        if !reads_back(s, n, k, row, t) {
             return Walk::Fault(k);
         }
         row -= t;
@@ -142,7 +175,7 @@ fn end_of(errors: &[u64], s: Settings, n: usize) -> Least
 }
 
 // Where the buffers have room: 11, 12, or the sequence. Nothing is written before the walk has ended without a fault. A count is at most
-// 574, so that there are at most 575 boundaries.
+// 512, so that there are at most 513 boundaries.
 fn read_entries(
     errors: &[u64],
     thicknesses: &[u8],
@@ -158,7 +191,7 @@ fn read_entries(
     if end.error == NONE {
         return Answer::Refused(refusal_at(Reason::NoSequence, 0));
     }
-    let mut heights = [0u16; 575];
+    let mut heights = [0u16; 513];
     let top = s.height + s.tmax - 1 + end.place;
     let walk = walk_down(thicknesses, s, n, top as u32, &mut heights);
     if let Walk::Fault(layer) = walk {

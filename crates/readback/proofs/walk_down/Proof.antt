@@ -12,20 +12,18 @@ use Rattle.paper.specs.Layer.{tmax}
 use Rattle.plate.specs.Datum.{atRow}
 use Rattle.plate.specs.Settings.{Sound}
 use Rattle.plate.specs.declared.settings.Settings.{Settings}
-use Rattle.sequence.specs.Rules.{shape}
 use Rattle.sequence.specs.Sequence.{starts}
-use Rattle.sequence.specs.Sheets.{entry, faultUnder, boundariesUnder}
-use Rattle.sequence.proofs.Layers.{shape-from}
+use Rattle.sequence.specs.Sheets.{entry, readsBack, faultUnder, boundariesUnder}
 use Rattle.readback.specs.Walking.{notedFrom}
-use Rattle.readback.proofs.Walks.{fault-here, fault-on, fault-end, fine-end, noted-none, noted-more, noted-last, faulted}
+use Rattle.readback.proofs.Walks.{step-from, fault-here, fault-on, fault-end, fine-end, noted-none, noted-more, noted-last, faulted}
 use Rattle.readback.proofs.walk_down.Statement.{statement}
 use Rattle.readback.proofs.walk_down.Tie as tie
 
 abbrev Inv-loop : tie.InvT-loop
 Inv-loop thicknesses s n top heights₀ row₀ k₀ heights row k =
     (k ≤ n) × (row ≤ top) × (length heights ≡ length heights₀)
-    × (faultUnder (entry (s .height) (s .members) thicknesses) (s .height) (s .members) n (atRow (s .tmax) top)
-    ≡ faultUnder (entry (s .height) (s .members) thicknesses) (s .height) (s .members) k (atRow (s .tmax) row))
+    × (faultUnder (entry (s .height) (s .members) thicknesses) (s .height) (s .members) n n (atRow (s .tmax) top)
+    ≡ faultUnder (entry (s .height) (s .members) thicknesses) (s .height) (s .members) n k (atRow (s .tmax) row))
     × (boundariesUnder (entry (s .height) (s .members) thicknesses) k (atRow (s .tmax) row) (notedFrom (k + 1) n heights)
     ≡ boundariesUnder (entry (s .height) (s .members) thicknesses) n (atRow (s .tmax) top) [])
 
@@ -36,8 +34,8 @@ abbrev μ-loop : tie.MeasureT-loop
 height-fits : {s : Settings} → Sound s → (q : ℕ) → q ≤ s .rows → atRow (s .tmax) q < 65536
 height-fits k q l = omega (arith, k .rows-are, k .high, k .thick)
 
--- what was asked is the shape of the layer under the row
-module _ (c : tie.After-is-layer-under Inv-loop μ-loop) where
+-- what was asked is whether the layer under the row reads back
+module _ (c : tie.After-reads-back Inv-loop μ-loop) where
   abbrev here : tie.At-loop Inv-loop μ-loop
   here = c .before .before .before .before .before
 
@@ -47,8 +45,8 @@ module _ (c : tie.After-is-layer-under Inv-loop μ-loop) where
   abbrev thick : ℕ
   thick = c .before .thickness-at .result
 
-  asked : (answer : Bool) → c .is-layer-under .result ≡ answer → shape (known .height) (known .members) (atRow (known .tmax) (here .loop .row) - thick) thick ≡ answer
-  asked answer e = sym (c .is-layer-under .ensures) ∙ e
+  asked : (answer : Bool) → c .reads-back .result ≡ answer → readsBack (known .height) (known .members) (here .before .before .before .args .n) (here .loop .k) (atRow (known .tmax) (here .loop .row)) thick ≡ answer
+  asked answer e = sym (c .reads-back .ensures) ∙ e
 
 -- past the test on the layer
 module _ (c : tie.Else1 Inv-loop μ-loop) where
@@ -61,12 +59,12 @@ module _ (c : tie.Else1 Inv-loop μ-loop) where
   abbrev t : ℕ
   t = c .before .before .thickness-at .result
 
-  in-shape : shape (s .args .s .height) (s .args .s .members) (atRow (s .args .s .tmax) (l .loop .row) - t) t ≡ true
-  in-shape = asked (c .before) true (not-false _ (c .if1 .left))
+  reads : readsBack (s .args .s .height) (s .args .s .members) (s .args .n) (l .loop .k) (atRow (s .args .s .tmax) (l .loop .row)) t ≡ true
+  reads = asked (c .before) true (not-false _ (c .if1 .left))
 
   -- the step down is to a row
   step : t ≤ l .loop .row
-  step = omega (arith, shape-from _ _ _ _ in-shape, s .pre .0 .greatest, s .pre .0 .thick)
+  step = omega (arith, step-from _ _ _ _ _ _ reads, s .pre .0 .greatest, s .pre .0 .thick)
 
   next : atRow (s .args .s .tmax) (l .loop .row) - t ≡ atRow (s .args .s .tmax) (l .loop .row - t)
   next = omega (arith, step, s .pre .0 .thick)
@@ -75,7 +73,7 @@ returns : tie.Need-returns Inv-loop μ-loop
 returns c =
     let l = c .before .before .before .before .before .before in
     faulted _ _ _ _ _ _ _
-    (l .loop .inv .3 ∙ fault-here _ _ _ (l .loop .k) (atRow _ (l .loop .row)) _ (omega arith) (c .before .before .thickness-at .ensures) (asked (c .before) false (not-true _ (c .if1 .taken))))
+    (l .loop .inv .3 ∙ fault-here _ _ _ _ (l .loop .k) (atRow _ (l .loop .row)) _ (omega arith) (c .before .before .thickness-at .ensures) (asked (c .before) false (not-true _ (c .if1 .taken))))
 
 loop-again : tie.Need-loop-again Inv-loop μ-loop
 loop-again c =
@@ -84,7 +82,7 @@ loop-again c =
       omega arith,
       omega arith,
       simp length-set (l c .loop .inv .2),
-      rw (← next c) (l c .loop .inv .3 ∙ fault-on _ _ _ (l c .loop .k) h _ (omega arith) e (in-shape c)),
+      rw (← next c) (l c .loop .inv .3 ∙ fault-on _ _ _ _ (l c .loop .k) h _ (omega arith) e (reads c)),
       noted-more _ (s c .args .n) (l c .loop .k) h _ _ _ (l c .loop .heights) (omega arith) (omega arith) (omega arith) e (c .before .before .before .at-row .ensures) (sym (next c)) ∙ l c .loop .inv .4,
     )
 
@@ -99,14 +97,14 @@ module _ (c : tie.After-is-start Inv-loop μ-loop) where
 returns-2 : tie.Need-returns-2 Inv-loop μ-loop
 returns-2 c =
     let l = d (c .before) in
-    faulted _ _ _ _ _ _ _ (l .loop .inv .3 ∙ fault-end _ _ _ (l .loop .k) (atRow _ (l .loop .row)) (omega arith) (sym (start-is (c .before)) ∙ not-true _ (c .if2 .taken)))
+    faulted _ _ _ _ _ _ _ (l .loop .inv .3 ∙ fault-end _ _ _ _ (l .loop .k) (atRow _ (l .loop .row)) (omega arith) (sym (start-is (c .before)) ∙ not-true _ (c .if2 .taken)))
 
 returns-3 : tie.Need-returns-3 Inv-loop μ-loop
 returns-3 c =
     let l = d (c .before) in
     let s = l .before .before .before in
     record {
-      ends = sym (l .loop .inv .3 ∙ fine-end _ _ _ (l .loop .k) (atRow _ (l .loop .row)) (omega arith) (sym (start-is (c .before)) ∙ not-false _ (c .if2 .left)));
+      ends = sym (l .loop .inv .3 ∙ fine-end _ _ _ _ (l .loop .k) (atRow _ (l .loop .row)) (omega arith) (sym (start-is (c .before)) ∙ not-false _ (c .if2 .left)));
       notes = λ q. noted-last _ (s .args .n) (l .loop .k) (atRow (s .args .s .tmax) (l .loop .row)) _ (l .loop .heights) (omega arith) (omega arith) (c .before .before .at-row2 .ensures) ∙ l .loop .inv .4;
     }
 
