@@ -3,9 +3,9 @@
 use mathlib.Core.Path.{_≡_, refl, sym, ap, _∙_, subst}
 use mathlib.Core.Bool.{true, false}
 use mathlib.Core.List.{List, [], _∷_}
-use Prim.Native.Nat.{ℕ, _+_, _-_, _≤_, _<_}
+use Prim.Native.Nat.{ℕ, suc, _+_, _-_, _≤_, _<_}
 use native.Mathlib.Omega.{arith}
-use borrow.Author.Tests.{lt-ltb, le-ltb}
+use borrow.Author.Tests.{lt-ltb, le-ltb, le-leb, lt-leb}
 use lib.IntN.{ℤ}
 use lib.ListN.{length}
 use Rattle.lists.proofs.Search.{lowest-hit, lowest-none}
@@ -26,7 +26,8 @@ use Rattle.plate.proofs.Decided.{decided-passed}
 use Rattle.sequence.specs.Sequence.{starts, lowestEnd}
 use Rattle.table.specs.Table.{tableChecks}
 use Rattle.recount.specs.Layers.{sequenceAnswer}
-use Rattle.recount.specs.Recount.{layerOut, firstLayerOut, sequenceChecks, recounting}
+use Rattle.recount.specs.Recount.{layerOut, lastOut, faultAt, firstFault, sequenceChecks, recounting}
+use Rattle.recount.proofs.Faults.{fault-first, fault-layer, fault-last, fault-none}
 
 -- n is one less than the boundaries
 count-is : (zs : List ℤ) → count zs ≡ length zs - 1
@@ -44,29 +45,60 @@ module _ (N T : ℕ) (table : List ℕ) (bound : ℕ) (zs : List ℤ) where
     unfolding sequenceAnswer sequenceChecks
     out-start e = simp (le-ltb (length zs) 2 layered, e)
 
-    module _ (start : starts (tmax T) (datum (zs ! 0)) ≡ true) (k : ℕ) (before : (j : ℕ) → j < k → layerOut N T table bound zs j ≡ false) where
-      pub out-layer : k < length zs - 1 → layerOut N T table bound zs k ≡ true → refused 13 (k + 1) ≡ sequenceAnswer N T table bound zs
-      unfolding sequenceAnswer sequenceChecks firstLayerOut
-      out-layer l e =
-          let h : k < count zs = omega (arith, count-is zs) in
-          simp (le-ltb (length zs) 2 layered, start, lowest-hit (layerOut N T table bound zs) (count zs) k h before e, lt-ltb k (count zs) h)
+    module _ (start : starts (tmax T) (datum (zs ! 0)) ≡ true) where
+      -- the first index at fault is told, and the error where there is none
+      faulty : (k : ℕ) → k < count zs → ((j : ℕ) → j < k → faultAt N T table bound zs j ≡ false) → faultAt N T table bound zs k ≡ true
+          → refused 13 (k + 1) ≡ sequenceAnswer N T table bound zs
+      unfolding sequenceAnswer sequenceChecks firstFault
+      faulty k l before e =
+          simp (le-ltb (length zs) 2 layered, start, lowest-hit (faultAt N T table bound zs) (count zs) k l before e, lt-ltb k (count zs) l)
 
-      module _ (all : k ≡ length zs - 1) (top : ℕ) (at : top ≡ datum (zs ! k)) where
-        whole : count zs ≡ k
-        whole = count-is zs ∙ sym all
+      faultless : ((j : ℕ) → j < count zs → faultAt N T table bound zs j ≡ false) → done (error (ofTable N T table) zs) ≡ sequenceAnswer N T table bound zs
+      unfolding sequenceAnswer sequenceChecks firstFault
+      faultless none =
+          simp (le-ltb (length zs) 2 layered, start, lowest-none (faultAt N T table bound zs) (count zs) none, le-ltb (count zs) (count zs) (omega arith))
 
-        pub ends-low : top < lowestEnd N → refused 13 k ≡ sequenceAnswer N T table bound zs
-        unfolding sequenceAnswer sequenceChecks firstLayerOut
-        ends-low l =
-            simp
-            (le-ltb (length zs) 2 layered, start, whole, lowest-none (layerOut N T table bound zs) k before, le-ltb k k (omega arith), lt-ltb (datum (zs ! k)) (lowestEnd N) (omega arith))
+      pub out-first : datum (zs ! 1) ≤ 32 → refused 13 1 ≡ sequenceAnswer N T table bound zs
+      out-first l = faulty 0 (omega (arith, count-is zs)) (λ j u. absurd (omega arith)) (fault-first N T table bound zs l)
 
-        pub admissible : lowestEnd N ≤ top → (sum : ℕ) → sum ≡ errorUnder (ofTable N T table) zs k → done sum ≡ sequenceAnswer N T table bound zs
-        unfolding sequenceAnswer sequenceChecks firstLayerOut
-        admissible l sum e =
-            simp
-            (le-ltb (length zs) 2 layered, start, whole, lowest-none (layerOut N T table bound zs) k before, le-ltb k k (omega arith), le-ltb (datum (zs ! k)) (lowestEnd N) (omega arith))
-            (ap done e)
+      module _ (above : 32 < datum (zs ! 1)) (k : ℕ) (before : (j : ℕ) → j < k → layerOut N T table bound zs j ≡ false) where
+        -- no layer under the last is at fault
+        quiet : (j : ℕ) → j < k → suc j < count zs → faultAt N T table bound zs j ≡ false
+        quiet j l u = fault-none N T table bound zs j (before j l) above (λ e. absurd (omega arith))
+
+        pub out-layer : k < length zs - 1 → layerOut N T table bound zs k ≡ true → refused 13 (k + 1) ≡ sequenceAnswer N T table bound zs
+        out-layer l e =
+            let h : k < count zs = omega (arith, count-is zs) in
+            faulty k h (λ j u. quiet j u (omega arith)) (fault-layer N T table bound zs k e)
+
+        module _ (all : k ≡ length zs - 1) where
+          whole : count zs ≡ k
+          whole = count-is zs ∙ sym all
+
+          last-fault : lastOut N (datum (zs ! (k - 1))) (datum (zs ! k)) ≡ true → refused 13 k ≡ sequenceAnswer N T table bound zs
+          last-fault e =
+              let i : k - 1 + 1 ≡ k = omega (arith, all, layered) in
+              let j : suc (k - 1) ≡ k = omega (arith, all, layered) in
+              ap (refused 13) (sym i)
+              ∙ faulty (k - 1) (omega (arith, whole, all, layered)) (λ j u. quiet j (omega arith) (omega (arith, whole)))
+              (fault-last N T table bound zs (k - 1) (j ∙ sym whole) (rw j e))
+
+          pub before-last-high : lowestEnd N ≤ datum (zs ! (k - 1)) → refused 13 k ≡ sequenceAnswer N T table bound zs
+          before-last-high l = last-fault (simp (le-leb (lowestEnd N) (datum (zs ! (k - 1))) l))
+
+          module _ (below : datum (zs ! (k - 1)) < lowestEnd N) (top : ℕ) (at : top ≡ datum (zs ! k)) where
+            pub ends-low : top < lowestEnd N → refused 13 k ≡ sequenceAnswer N T table bound zs
+            ends-low l = last-fault (simp (lt-leb (lowestEnd N) (datum (zs ! (k - 1))) below, lt-ltb (datum (zs ! k)) (lowestEnd N) (omega arith)))
+
+            pub admissible : lowestEnd N ≤ top → (sum : ℕ) → sum ≡ errorUnder (ofTable N T table) zs k → done sum ≡ sequenceAnswer N T table bound zs
+            admissible l sum e =
+                ap done (e ∙ ap (errorUnder (ofTable N T table) zs) (sym whole)) ∙ faultless (λ j u. fault-none N T table bound zs j (before j (omega (arith, whole))) above (ended j))
+              where
+                ended : (j : ℕ) → suc j ≡ count zs → lastOut N (datum (zs ! j)) (datum (zs ! suc j)) ≡ false
+                ended j i =
+                    let a : j ≡ k - 1 = omega (arith, whole) in
+                    let b : suc j ≡ k = i ∙ whole in
+                    rw (b, a) (simp (lt-leb (lowestEnd N) (datum (zs ! (k - 1))) below, le-ltb (datum (zs ! k)) (lowestEnd N) (omega arith)))
 
 -- 1, 2, 3, 7, 6
 module _ (held : Held) (bound : ℕ) (zs : List ℤ) {made : Made} (j : Judges made (tableChecks held) (held .head .height) (held .head .members)) where

@@ -1,5 +1,5 @@
 -- One layer: what each test of the code says of it, and its error added to those under it. Where boundaries do not rise, the difference is in
--- no T, so the layer has not the shape of one. Assumes nothing.
+-- no T. Assumes nothing.
 use mathlib.Core.Path.{_≡_, sym, ap, ap₂, _∙_}
 use mathlib.Core.Bool.{true, false}
 use mathlib.Core.List.{List}
@@ -8,13 +8,12 @@ use native.Mathlib.Omega.{arith}
 use native.Mathlib.Numerals.{add-one}
 use borrow.Author.Tests.{lt-ltb, le-ltb}
 use lib.IntN.{ℤ}
-use Rattle.paper.specs.Layer.{tmax}
+use Rattle.paper.specs.Layer.{allowed, tmax}
 use Rattle.paper.specs.Table.{ofTable}
 use Rattle.paper.specs.Sequence.{_!_, errorUnder}
 use Rattle.plate.specs.Datum.{datum}
 use Rattle.plate.specs.Settings.{Sound}
 use Rattle.plate.specs.declared.settings.Settings.{Settings}
-use Rattle.sequence.specs.Rules.{shape}
 use Rattle.table.specs.Cells.{cellFrom}
 use Rattle.recount.specs.Layers.{Counted}
 use Rattle.recount.specs.Recount.{outBetween, layerOut}
@@ -22,18 +21,23 @@ use Rattle.recount.proofs.Words.{error-is}
 
 -- what each test says
 module _ (N T : ℕ) (table : List ℕ) (bound below above : ℕ) where
-  pub out-shape : shape N T below (above - below) ≡ false → outBetween N T table bound below above ≡ true
+  pub out-thickness : allowed T (above - below) ≡ false → outBetween N T table bound below above ≡ true
   unfolding outBetween
-  out-shape e = simp e
+  out-thickness e = simp e
 
-  module _ (e : shape N T below (above - below) ≡ true) where
-    pub out-bound : bound < cellFrom T table below (above - below) → outBetween N T table bound below above ≡ true
+  module _ (e : allowed T (above - below) ≡ true) where
+    pub out-end : N + tmax T + 31 < above → outBetween N T table bound below above ≡ true
     unfolding outBetween
-    out-bound l = simp (e, lt-ltb bound (cellFrom T table below (above - below)) l)
+    out-end l = simp (e, lt-ltb (N + tmax T + 31) above l)
 
-    pub in-bound : cellFrom T table below (above - below) ≤ bound → outBetween N T table bound below above ≡ false
-    unfolding outBetween
-    in-bound l = simp (e, le-ltb bound (cellFrom T table below (above - below)) l)
+    module _ (l : above ≤ N + tmax T + 31) where
+      pub out-bound : bound < cellFrom T table below (above - below) → outBetween N T table bound below above ≡ true
+      unfolding outBetween
+      out-bound u = simp (e, le-ltb (N + tmax T + 31) above l, lt-ltb bound (cellFrom T table below (above - below)) u)
+
+      pub in-bound : cellFrom T table below (above - below) ≤ bound → outBetween N T table bound below above ≡ false
+      unfolding outBetween
+      in-bound u = simp (e, le-ltb (N + tmax T + 31) above l, le-ltb bound (cellFrom T table below (above - below)) u)
 
 -- sound settings
 pub some-thickness : {s : Settings} → Sound s → 1 ≤ tmax (s .members)

@@ -1,3 +1,4 @@
 pub mod Words
 pub mod Layers
+pub mod Faults
 pub mod Answers

@@ -18,9 +18,8 @@ use Rattle.paper.specs.Sequence.{_!_, errorAt}
 use Rattle.paper.proofs.Thicknesses.{tmax-le, allowed-under}
 use Rattle.plate.specs.Datum.{datum, heightOf}
 use Rattle.plate.proofs.Datum.{natural-sub, below-height, above-height, pos-height, neg-height}
-use Rattle.sequence.specs.Rules.{shape}
 use Rattle.sequence.specs.Sequence.{starts, lowestEnd}
-use Rattle.sequence.proofs.Layers.{start-in, start-low, start-high, shape-in, shape-barred, shape-high}
+use Rattle.sequence.proofs.Layers.{start-in, start-low, start-high}
 use Rattle.table.specs.Cells.{cellFrom}
 use Rattle.table.proofs.Cells.{cell-is}
 use Rattle.recount.specs.Recount.{outBetween, layerOut}
@@ -88,6 +87,15 @@ start-words T z = go (decLt 32 (datum z + tmax T)) (decLe (datum z) 32) ∙ sym 
 pub end-words : (N : ℕ) (z : ℤ) → ltb (datum z) (lowestEnd N) ≡ ltZ z (pos N)
 end-words N z = sym (ap (ltZ z) (pos-height N) ∙ below-height z (lowestEnd N) (omega arith))
 
+-- ---- document 02 b): 'if z1 is 0 or less', 'if the boundary before zn is N or more'
+
+pub first-words : (z : ℤ) → leb (datum z) 32 ≡ leZ z (pos 0)
+first-words z =
+    le-not (datum z) 32 ∙ ap not (sym (ap (λ (x : ℤ). ltZ x z) (pos-height 0) ∙ above-height z 32)) ∙ sym (not-above z (pos 0))
+
+pub before-last-words : (N : ℕ) (z : ℤ) → leb (lowestEnd N) (datum z) ≡ leZ (pos N) z
+before-last-words N z = le-not (lowestEnd N) (datum z) ∙ ap not (end-words N z) ∙ sym (not-above (pos N) z)
+
 -- ---- a layer: 'whose difference from the boundary before isn't in T, which is above N+tmax-1, or whose layer is over the bound'
 
 module _ (N T : ℕ) (table : List ℕ) (bound : ℕ) (zs : List ℤ) (k : ℕ) (some : 1 ≤ tmax T) (from : 32 < datum (zs ! k) + tmax T) where
@@ -106,15 +114,12 @@ module _ (N T : ℕ) (table : List ℕ) (bound : ℕ) (zs : List ℤ) (k : ℕ) 
       ≡ (not (allowed T (natural (zs ! suc k -ℤ zs ! k))) || (ltZ (pos (N + tmax T - 1)) (zs ! suc k) || ltb bound (errorAt (ofTable N T table) zs k)))
   unfolding layerOut outBetween
   layer-words =
-      go (allowed T t) refl (decLt (datum (zs ! k)) (datum (zs ! suc k))) (decLe (datum (zs ! suc k)) (N + tmax T + 31))
+      go (allowed T t) refl (decLt (datum (zs ! k)) (datum (zs ! suc k)))
       ∙ sym (ap₂ (λ (a b : Bool). not a || (b || ltb bound (errorAt (ofTable N T table) zs k))) (ap (allowed T) (difference (zs ! k) (zs ! suc k) over)) above-words)
     where
-      go : (b : Bool) → allowed T t ≡ b → Dec (datum (zs ! k) < datum (zs ! suc k)) → Dec (datum (zs ! suc k) ≤ N + tmax T + 31)
-          → (not (shape N T (datum (zs ! k)) t) || ltb bound (cellFrom T table (datum (zs ! k)) t))
+      go : (b : Bool) → allowed T t ≡ b → Dec (datum (zs ! k) < datum (zs ! suc k))
+          → (not (allowed T t) || (ltb (N + tmax T + 31) (datum (zs ! suc k)) || ltb bound (cellFrom T table (datum (zs ! k)) t)))
           ≡ (not (allowed T t) || (ltb (N + tmax T + 31) (datum (zs ! suc k)) || ltb bound (errorAt (ofTable N T table) zs k)))
-      go false e d u = simp (shape-barred N T (datum (zs ! k)) t e, e)
-      go true e (no l) u = let z = allowed-under T t (omega arith) in absurd (let x : _≡_ {A = ℕ} 0 1 = cc in omega arith)
-      go true e (yes l) (no u) =
-          simp (shape-high N T (datum (zs ! k)) t (omega arith), e, lt-ltb (N + tmax T + 31) (datum (zs ! suc k)) (omega arith))
-      go true e (yes l) (yes u) =
-          simp (shape-in N T (datum (zs ! k)) t e from (omega arith), e, le-ltb (N + tmax T + 31) (datum (zs ! suc k)) u, error-is N T table zs k some over l)
+      go false e d = simp e
+      go true e (no l) = let z = allowed-under T t (omega arith) in absurd (let x : _≡_ {A = ℕ} 0 1 = cc in omega arith)
+      go true e (yes l) = rw (error-is N T table zs k some over l) refl

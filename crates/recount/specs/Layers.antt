@@ -18,7 +18,7 @@ use Rattle.recount.specs.declared.Layer.{Layer}
 use Rattle.recount.specs.declared.Layer.the-variants.{Out, Error}
 use Rattle.recount.specs.Recount.{outBetween, sequenceChecks}
 
--- a layer of an admissible sequence, and its error
+-- a layer that is by itself one of an admissible sequence, and its error
 pub record Counted (N T : ℕ) (table : List ℕ) (bound below above error : ℕ) : Type 0 where
   pub admissible : outBetween N T table bound below above ≡ false
   pub is : error ≡ cellFrom T table below (above - below)
@@ -31,10 +31,11 @@ abbrev pub Looked : Layer → ℕ → ℕ → List ℕ → ℕ → ℕ → ℕ �
 Looked Out N T table bound below above = outBetween N T table bound below above ≡ true
 Looked (Error x) N T table bound below above = Counted N T table bound below above x
 
--- a sequence that starts as an admissible one does: two boundaries at least, and z0 a start
+-- a sequence that starts as an admissible one does: two boundaries at least, z0 a start, and z1 above 0
 pub record Started (s : Settings) (zs : List ℤ) : Type 0 where
   pub layered : 2 ≤ length zs
   pub starts-in : starts (tmax (s .members)) (datum (zs ! 0)) ≡ true
+  pub first-above : 32 < datum (zs ! 1)
 
 -- what is answered where the table is in order: 13, or the sequence's error
 unfoldable pub sequenceAnswer : ℕ → ℕ → List ℕ → ℕ → List ℤ → Told ℕ

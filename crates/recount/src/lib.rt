@@ -17,13 +17,13 @@ use plate::refusal::Reason;
 use plate::refusal::refusal_at;
 use plate::settings::Made;
 use plate::settings::Settings;
-use sheets::is_layer;
+use plate::settings::is_allowed;
 use sheets::is_start;
 use sheets::row_of;
 use table::cell_of;
 use table::check_table;
 
-// A look at a layer: no layer of an admissible sequence, or its error.
+// A look at a layer by itself: no layer of an admissible sequence, or its error.
 pub enum Layer {
     Out,
     Error(u64),
@@ -40,18 +40,20 @@ fn datum_at(sequence: &[i32], k: usize) -> usize
 // The layer from the datum height below up to above.
 fn look(table: &[u32], s: Settings, bound: u32, below: usize, above: usize) -> Layer
     requires { ⌜ Sound s ⌝ }
-    requires { ⌜ (32 < below + s .tmax) × (below < s .height + s .tmax + 32) × (above < 4294967296) ⌝ }
+    requires { ⌜ (32 < below + s .tmax) × (below < s .height + s .tmax + 32) ⌝ }
     ensures { λ r. ⌜ Looked r (s .height) (s .members) (now (table .entry)) bound below above ⌝ }
 {
     if above <= below {
         return Layer::Out;
     }
     let t = above - below;
-    let row = row_of(s.tmax as u32, below as u32);
-    let end = row + t;
-    if !is_layer(s.height as u16, s.members, s.tmax as u16, end as u32, t) {
+    if !is_allowed(s.members, t) {
         return Layer::Out;
     }
+    if s.height + s.tmax + 31 < above {
+        return Layer::Out;
+    }
+    let row = row_of(s.tmax as u32, below as u32);
     let error = cell_of(table, s.tmax as u32, row as u32, t as u32);
     if bound < error {
         return Layer::Out;
@@ -59,7 +61,8 @@ fn look(table: &[u32], s: Settings, bound: u32, below: usize, above: usize) -> L
     Layer::Error(error as u64)
 }
 
-// Where the start is in order: the layers from the lowest up, and the end.
+// Where the start and z1 are in order: the layers from the lowest up, then z(n - 1) and the end. That z(n - 1) is below N is asked last, since it is a
+// fault of index n, and not of the first layer that starts at N or above.
 fn recount_layers(table: &[u32], s: Settings, bound: u32, sequence: &[i32]) -> Answer
     requires { ⌜ Sound s ⌝ }
     requires { ⌜ Started s (now sequence) ⌝ }
@@ -79,6 +82,9 @@ fn recount_layers(table: &[u32], s: Settings, bound: u32, sequence: &[i32]) -> A
         below = above;
         k += 1;
     }
+    if s.height + 32 <= datum_at(sequence, count - 1) {
+        return Answer::Refused(refusal_at(Reason::NotAdmissible, count));
+    }
     if below < s.height + 32 {
         return Answer::Refused(refusal_at(Reason::NotAdmissible, count));
     }
@@ -96,6 +102,9 @@ fn recount_sequence(table: &[u32], s: Settings, bound: u32, sequence: &[i32]) ->
     let start = datum_at(sequence, 0);
     if !is_start(s.tmax, start) {
         return Answer::Refused(refusal_at(Reason::NotAdmissible, 0));
+    }
+    if datum_at(sequence, 1) <= 32 {
+        return Answer::Refused(refusal_at(Reason::NotAdmissible, 1));
     }
     recount_layers(table, s, bound, sequence)
 }

@@ -1,5 +1,6 @@
 -- `recount_layers` meets its contract. The loop's invariant: none of the k layers so far is out, their errors sum to the sum, and the height
--- reached is the datum height of zk. Heights rise, so k is below that height, and the sum of k 32-bit errors is small. Assumes nothing.
+-- reached is the datum height of zk. Heights rise, so k is below that height, and the sum of k 32-bit errors is small. Past the layers two tests
+-- are left, both of index n. Assumes nothing.
 use mathlib.Core.Path.{_≡_, refl, sym, ap, _∙_, subst}
 use mathlib.Core.Bool.{false}
 use Prim.Native.Nat.{ℕ, _+_, _-_, _*_, _≤_, _<_}
@@ -19,7 +20,7 @@ use Rattle.recount.specs.declared.Layer.the-variants.{Out, Error}
 use Rattle.recount.specs.Layers.{Looked}
 use Rattle.recount.specs.Recount.{outBetween, layerOut}
 use Rattle.recount.proofs.Layers.{layer-between, one-more}
-use Rattle.recount.proofs.Answers.{out-layer, ends-low, admissible}
+use Rattle.recount.proofs.Answers.{out-layer, before-last-high, ends-low, admissible}
 use Rattle.recount.proofs.recount_layers.Statement.{statement}
 use Rattle.recount.proofs.recount_layers.Tie as tie
 
@@ -65,7 +66,7 @@ returns c =
     let k = c .before .before .before in
     let p = s k .pre in
     ap (λ (r : Refusal). told (Refused r)) (c .refusal-at .ensures)
-    ∙ out-layer _ _ _ _ _ (p .1 .layered) (p .1 .starts-in) (l k .loop .k) (l k .loop .inv .6) (omega arith) (between k ∙ told-of k Out (c .before .enum-told .given .1))
+    ∙ out-layer _ _ _ _ _ (p .1 .layered) (p .1 .starts-in) (p .1 .first-above) (l k .loop .k) (l k .loop .inv .6) (omega arith) (between k ∙ told-of k Out (c .before .enum-told .given .1))
 
 add-sum : tie.Need-add-sum Inv-loop μ-loop
 add-sum c = let k = c .before .before .before in omega (arith, told-of k (Error (c .before .layer .given .0 .0)) (c .before .layer .given .1), s k .pre .0 .high, s k .pre .0 .thick)
@@ -85,20 +86,41 @@ loop-again c =
       one-more (s k .pre .0) _ _ (s k .args .sequence .now) (l k .loop .k) _ _ (l k .loop .inv .5) (k .before .datum-at2 .ensures .0) (omega arith) _ _ t (l k .loop .inv .7),
     )
 
+-- past the layers, and past the boundary before the last
+module _ (c : tie.After-datum-at3 Inv-loop μ-loop) where
+  abbrev d : tie.At-loop Inv-loop μ-loop
+  d = c .before .before .before
+
+  abbrev o : tie.Start Inv-loop μ-loop
+  o = d .before .before .before
+
+  all : d .loop .k ≡ length (o .args .sequence .now) - 1
+  all = omega arith
+
+  before-last : c .datum-at3 .result ≡ datum (o .args .sequence .now ! (d .loop .k - 1))
+  before-last = c .datum-at3 .ensures .0 ∙ ap (λ (i : ℕ). datum (o .args .sequence .now ! (i - 1))) (sym all)
+
 returns-2 : tie.Need-returns-2 Inv-loop μ-loop
 returns-2 c =
-    let d = c .before .before .before .before in
-    let p = d .before .before .before .pre in
-    let e : d .loop .k ≡ length (d .before .before .before .args .sequence .now) - 1 = omega arith in
+    let m = c .before .before in
+    let p = o m .pre .1 in
     ap (λ (r : Refusal). told (Refused r)) (c .refusal-at2 .ensures)
-    ∙ ap (refused 13) (sym e)
-    ∙ ends-low _ _ _ _ _ (p .1 .layered) (p .1 .starts-in) (d .loop .k) (d .loop .inv .6) e _ (d .loop .inv .5) (omega arith)
+    ∙ ap (refused 13) (sym (all m))
+    ∙ before-last-high _ _ _ _ _ (p .layered) (p .starts-in) (p .first-above) (d m .loop .k) (d m .loop .inv .6) (all m) (omega (arith, before-last m))
 
 returns-3 : tie.Need-returns-3 Inv-loop μ-loop
 returns-3 c =
-    let d = c .before .before .before in
-    let p = d .before .before .before .pre in
-    admissible _ _ _ _ _ (p .1 .layered) (p .1 .starts-in) (d .loop .k) (d .loop .inv .6) (omega arith) _ (d .loop .inv .5) (omega arith) _ (d .loop .inv .7)
+    let m = c .before .before .before .before in
+    let p = o m .pre .1 in
+    ap (λ (r : Refusal). told (Refused r)) (c .refusal-at3 .ensures)
+    ∙ ap (refused 13) (sym (all m))
+    ∙ ends-low _ _ _ _ _ (p .layered) (p .starts-in) (p .first-above) (d m .loop .k) (d m .loop .inv .6) (all m) (omega (arith, before-last m)) _ (d m .loop .inv .5) (omega arith)
+
+returns-4 : tie.Need-returns-4 Inv-loop μ-loop
+returns-4 c =
+    let m = c .before .before .before in
+    let p = o m .pre .1 in
+    admissible _ _ _ _ _ (p .layered) (p .starts-in) (p .first-above) (d m .loop .k) (d m .loop .inv .6) (all m) (omega (arith, before-last m)) _ (d m .loop .inv .5) (omega arith) _ (d m .loop .inv .7)
 
 pub recount-layers-spec : {M : Type 1} → statement M
 recount-layers-spec =
@@ -122,6 +144,11 @@ recount-layers-spec =
     (λ c. omega arith)
     loop-again
     (λ c. omega arith)
+    (λ c. omega arith)
+    (λ c κs. omega arith)
     (λ c κs. search needs)
     returns-2
-    returns-3)
+    (λ c. omega arith)
+    (λ c κs. search needs)
+    returns-3
+    returns-4)
