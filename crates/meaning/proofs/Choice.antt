@@ -3,6 +3,7 @@
 -- are the same. All of it is for at least one layer, which an admissible sequence has. Assumes nothing.
 use Prim.Native.Nat.{ℕ, zero, suc, _-_, _≤_}
 use mathlib.Core.Path.{_≡_, refl, sym, ap, ap₂, _∙_, subst}
+use mathlib.Core.Bool.{true}
 use mathlib.Core.Logic.{_↔_}
 use mathlib.Core.Option.{Option, none, some, Option·map, map-eq-none-iff, map-eq-some-iff}
 use mathlib.Core.List.{List, [], _∷_}
@@ -25,8 +26,8 @@ use Rattle.sequence.specs.Rules.{shape}
 use Rattle.sequence.specs.Least.{chosen}
 use Rattle.sequence.specs.Sheets.{mark}
 use Rattle.sequence.proofs.Choice.{chosen-is, chosen-none, chosen-exact, chosen-exists, chosen-least-of, least-of}
-use Rattle.sequence.proofs.Bounds.{count-most}
-use Rattle.sequence.proofs.Layers.{shape-allowed}
+use Rattle.sequence.proofs.Bounds.{Known, count-most}
+use Rattle.sequence.proofs.Layers.{shape-allowed, shape-above, shape-below}
 use Rattle.meaning.specs.Working.{rulesOf, heightsOf, boundariesOf, found, foundError}
 use Rattle.meaning.proofs.Sequence.{layersUnder, length-under, ends-up, ends-down, Down, before-up, before-down}
 use Rattle.meaning.proofs.Stacks.{at-datum}
@@ -135,7 +136,7 @@ module _ (p : Plate) (bound n : ℕ) (some-layer : 1 ≤ n) where
       e = at-datum p bound zs n (en .stack) n (omega arith)
 
       w : working.Built (rulesOf p bound) h (layersUnder zs n) × (working.errorOf (rulesOf p bound) h (layersUnder zs n) ≡ errorUnder p zs n)
-      w = built-at p bound n zs (en .stack) (rw c at (a .ends-below)) h e
+      w = built-at p bound n zs (en .stack) h e
 
       b : length (heightsOf (upFrom h (layersUnder zs n) [])) ≡ suc n
       b = length-up h (layersUnder zs n) [] ∙ omega (arith, length-under zs n)
@@ -238,9 +239,14 @@ pub count-in-range : (p : Plate) (bound : ℕ) (zs : List ℤ) → Admissible p 
 count-in-range p bound zs a =
     let w = to-working p bound (count zs) (a .layered) zs a refl in
     let b = tmin-least (p .T) (thickness zs 0) (a .stack .layers 0 (a .layered) .member) in
-    rw (← w .1 .layers) (counts-most (p .N) (p .T) (working.count (w .0)) (b .0) (count-most (rulesOf p bound) (tmin (p .T)) thick (w .0) (w .1 .works)))
+    rw (← w .1 .layers) (counts-most (p .N) (p .T) (working.count (w .0)) (b .0) (count-most (rulesOf p bound) (tmin (p .T)) known (w .0) (w .1 .works)))
   where
-    thick : (h t : ℕ) → working.Layer (rulesOf p bound) h t → tmin (p .T) ≤ t
-    thick h t l =
-        let m = and-true (shape (p .N) (p .T) (h - t) t) (leb (p .layerError (heightOf (h - t)) t) bound) (l .allowed) in
-        tmin-least (p .T) t (shape-allowed (p .N) (p .T) (h - t) t (m .0)) .1
+    in-shape : (h t : ℕ) → working.Layer (rulesOf p bound) h t → shape (p .N) (p .T) (h - t) t ≡ true
+    in-shape h t l = and-true (shape (p .N) (p .T) (h - t) t) (leb (p .layerError (heightOf (h - t)) t) bound) (l .allowed) .0
+
+    known : Known (rulesOf p bound) (tmin (p .T))
+    known = record {
+      thick = λ h t l. tmin-least (p .T) t (shape-allowed (p .N) (p .T) (h - t) t (in-shape h t l)) .1;
+      above = λ h t l. omega (arith, l .above, shape-above (p .N) (p .T) (h - t) t (in-shape h t l));
+      below = λ h t l. shape-below (p .N) (p .T) (h - t) t (in-shape h t l);
+    }

@@ -12,7 +12,7 @@ use Rattle.paper.specs.Table.{rows, cells, startAt, thicknessAt, cellOf}
 use Rattle.paper.specs.Sequence.{error, M}
 use Rattle.paper.specs.Facts as fact
 use Rattle.paper.specs.Facts.{A, B, both, free, plate, Holds, All, facts}
-use Rattle.sequence.specs.Rules.{shapeBy, shape}
+use Rattle.sequence.specs.Rules.{shape}
 use Rattle.sequence.specs.Sequence.{starts}
 use Rattle.sequence.specs.Least.{bestTo, least, last, walk, top, chosen}
 use Rattle.motor.proofs.Heights.{p13}
@@ -40,7 +40,7 @@ x and y = (x, y)
 
 -- 'Marked P are to be proved as facts about the definitions, gathered into a single list that one theorem covers'
 pub facts-hold : All facts
-unfolding tmax greatestTo tmin leastAbove allowed rows cells startAt thicknessAt cellOf M chosen top walk last least bestTo bestOf starts shape shapeBy
+unfolding tmax greatestTo tmin leastAbove allowed rows cells startAt thicknessAt cellOf M chosen top walk last least bestTo bestOf starts shape
 facts-hold =
     -- P1 to P3
     (omega arith, refl, refl, refl)
@@ -63,5 +63,4 @@ facts-hold =
     -- the rest of what the plate prints
     and refl
     and is both free 2 _ _ refl refl
-    and is both free 3 _ _ refl refl
     and tt

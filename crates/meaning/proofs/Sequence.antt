@@ -7,20 +7,21 @@ use mathlib.Core.Logic.{inl, inr}
 use mathlib.Core.Bool.{true}
 use mathlib.Core.List.{List, [], _∷_}
 use native.Mathlib.Omega.{arith}
-use lib.Dec.{leb}
+use lib.Dec.{leb, ltb→lt}
 use lib.ListN.{length, getD}
-use lib.IntN.{ℤ, pos, negℤ}
+use lib.IntN.{ℤ, pos, negsuc, negℤ, _+ℤ_}
 use lib.Signed.{_≤ℤ_, _<ℤ_}
 use borrow.Author.Tests.{leb-true, le-leb}
 use Rattle.paper.specs.Layer.{Plate, tmax}
 use Rattle.paper.specs.Sequence.{_!_, thickness, IsLayer, Thinner, Before}
+use Rattle.paper.specs.Table.{natural}
 use Rattle.paper.specs.Groups.{Usable}
 use Rattle.paper.proofs.Thicknesses.{and-true, allowed-from, tmax-le}
 use Rattle.plate.specs.Datum.{datum, heightOf}
-use Rattle.plate.proofs.Datum.{le-up, le-down, lt-up, lt-down, height-only, difference-height, sum-height, pos-height, neg-height, datum-above}
+use Rattle.plate.proofs.Datum.{natural-sub, le-up, le-down, lt-up, lt-down, height-only, difference-height, sum-height, pos-height, neg-height, datum-above}
 use Rattle.sequence.specs.Sequence as working
 use Rattle.sequence.specs.Rules.{shape}
-use Rattle.sequence.proofs.Layers.{start-in, start-from, start-to, shape-in, shape-allowed, shape-from, shape-to}
+use Rattle.sequence.proofs.Layers.{start-in, start-from, start-to, shape-in, shape-allowed, shape-above, shape-below}
 use Rattle.meaning.specs.Working.{rulesOf}
 
 -- ---- one layer
@@ -29,16 +30,15 @@ use Rattle.meaning.specs.Working.{rulesOf}
 module _ (N T h t : ℕ) where
   pub shape-up : shape N T h t ≡ true → Usable N T (heightOf h) t
   shape-up e = record {
-    from = rw (neg-height (tmax T) (tmax-le T)) (lt-up (32 - tmax T) h (omega (arith, shape-from N T h t e, tmax-le T)));
-    to = rw (sum-height h t, pos-height (N + tmax T)) (lt-up (h + t) (N + tmax T + 32) (omega (arith, shape-to N T h t e)));
     member = shape-allowed N T h t e;
+    ends-above = rw (sum-height h t, pos-height 0) (lt-up 32 (h + t) (shape-above N T h t e));
+    starts-below = rw (pos-height N) (lt-up h (N + 32) (shape-below N T h t e));
   }
 
   pub shape-down : Usable N T (heightOf h) t → shape N T h t ≡ true
   shape-down u =
-      let l = lt-down (32 - tmax T) h (rw (neg-height (tmax T) (tmax-le T)) at (u .from)) in
-      let e = lt-down (h + t) (N + tmax T + 32) (rw (sum-height h t, pos-height (N + tmax T)) at (u .to)) in
-      shape-in N T h t (u .member) (omega arith) (omega arith)
+      shape-in N T h t (u .member) (lt-down 32 (h + t) (rw (sum-height h t, pos-height 0) at (u .ends-above)))
+      (lt-down h (N + 32) (rw (pos-height N) at (u .starts-below)))
 
 -- what holds between each height and the next, from the lowest up, holds at each place
 abbrev pub Steps : (ℕ → ℕ → Type 0) → ℕ → List ℕ → Type 0
@@ -54,6 +54,16 @@ step-at P a (b ∷ bs) s (suc k) l = step-at P b bs (s .1) k (omega arith)
 pub start-datum : (T : ℕ) (z : ℤ) → negℤ (pos (tmax T)) <ℤ z → 32 - tmax T < datum z
 start-datum T z l = datum-above (32 - tmax T) z (rw (neg-height (tmax T) (tmax-le T)) at l)
 
+-- what is above 0 is a natural number from 1 on
+above-natural : (z : ℤ) → pos 0 <ℤ z → 1 ≤ natural z
+above-natural (pos n) l = ltb→lt 0 n (l .lt)
+above-natural (negsuc n) l = absurd (l .lt)
+
+-- a layer that ends above 0 starts by less than its thickness under it
+pub end-datum : (z : ℤ) (t : ℕ) → t ≤ 32 → pos 0 <ℤ (z +ℤ pos t) → 32 < datum z + t
+end-datum (pos n) t l u = let a = above-natural (pos n +ℤ pos t) u in omega arith
+end-datum (negsuc n) t l u = let a = above-natural (negsuc n +ℤ pos t) u in omega (arith, natural-sub t (suc n))
+
 module _ (p : Plate) (bound : ℕ) where
   -- the layer from a up to b is permitted, as it is worked with
   abbrev pub PermittedBetween : ℕ → ℕ → Type 0
@@ -67,6 +77,15 @@ module _ (p : Plate) (bound : ℕ) where
       let l : a < b = omega (arith, allowed-from (p .T) (b - a) t) in
       let d = difference-height a b (omega arith) in
       record { rises = lt-up a b l; member = rw d t; within = rw d (leb-true _ _ (m .1)) }
+
+  -- and it has something on it
+  pub between-up : (a b : ℕ) → PermittedBetween a b → (pos 0 <ℤ heightOf b) × (heightOf a <ℤ pos (p .N))
+  between-up a b e =
+      let m = and-true (shape (p .N) (p .T) a (b - a)) (leb (p .layerError (heightOf a) (b - a)) bound) e .0 in
+      let l = allowed-from (p .T) (b - a) (shape-allowed (p .N) (p .T) a (b - a) m) in (
+        rw (pos-height 0) (lt-up 32 b (omega (arith, shape-above (p .N) (p .T) a (b - a) m))),
+        rw (pos-height (p .N)) (lt-up a (p .N + 32) (shape-below (p .N) (p .T) a (b - a) m)),
+      )
 
   pub step-down : (a b : ℕ) → Usable (p .N) (p .T) (heightOf a) (b - a) → IsLayer p bound (heightOf a) (heightOf b) → PermittedBetween a b
   step-down a b u s =

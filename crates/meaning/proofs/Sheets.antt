@@ -9,13 +9,12 @@ use mathlib.Core.List.{List, [], _∷_}
 use native.Mathlib.Omega.{arith}
 use lib.ListN.{length, getD, length-map}
 use lib.IntN.{ℤ, pos, natAbs, _-ℤ_}
-use lib.Signed.{_<ℤ_}
 use Rattle.paper.specs.Layer.{Plate, tmax}
 use Rattle.paper.specs.Sequence.{_!_, thickness, Stack, errorUnder, Thinner}
 use Rattle.paper.specs.Sheets.{missing, Ending, ChosenAt, lastOf, Entries}
 use Rattle.paper.proofs.Thicknesses.{allowed-tmax}
 use Rattle.plate.specs.Datum.{datum, heightOf}
-use Rattle.plate.proofs.Datum.{difference-height, height-only, pos-height, lt-up}
+use Rattle.plate.proofs.Datum.{difference-height, height-only}
 use Rattle.sequence.specs.Sequence as working
 use Rattle.sequence.specs.Sequence.{upFrom}
 use Rattle.sequence.specs.Least.{least, last, walk}
@@ -84,8 +83,8 @@ module _ (p : Plate) (bound : ℕ) where
     counts = length-map (a ∷ bs) heightOf ∙ l;
     ends = e;
     stack =
-        stack-up p bound (heightsOf (a ∷ bs)) m (λ k. getD (a ∷ bs) k 0) (λ k u. place-of (a ∷ bs) k (omega arith)) (s .0)
-        (λ k u. step-at (PermittedBetween p bound) a bs (s .1) k (omega arith));
+        stack-up p bound (heightsOf (a ∷ bs)) m (λ k. getD (a ∷ bs) k 0) (λ k u. place-of (a ∷ bs) k (omega arith))
+        (λ k u. step-at (PermittedBetween p bound) a bs (s .1) k (omega arith)) (s .0);
   }
 
   pub ending-up : (h : ℕ) (ts : List ℕ) → working.Built (rulesOf p bound) h ts → Ending p bound (length ts) (heightOf h) (heightsOf (upFrom h ts []))
@@ -95,7 +94,7 @@ module _ (p : Plate) (bound : ℕ) where
 
   -- ---- from the boundaries down to the layers
 
-  module _ (m : ℕ) (zs : List ℤ) (a : Stack p bound zs m) (low : zs ! m <ℤ pos (p .N + tmax (p .T))) where
+  module _ (m : ℕ) (zs : List ℤ) (a : Stack p bound zs m) where
     built-datum : (k : ℕ) → k ≤ m
         → working.Built (rulesOf p bound) (datum (zs ! k)) (layersUnder zs k) × (working.errorOf (rulesOf p bound) (datum (zs ! k)) (layersUnder zs k) ≡ errorUnder p zs k)
     built-datum zero l = (start-at p bound zs m a, refl)
@@ -108,7 +107,7 @@ module _ (p : Plate) (bound : ℕ) where
             let r = rising-datum p bound zs m a k (omega arith) in
             let t = thickness-datum p bound zs m a k (omega arith) in
             let n = allowed-tmax (p .T) (thickness zs k) (a .layers k (omega arith) .member) in
-            let w = permitted-at p bound zs m a low k (omega arith) in
+            let w = permitted-at p bound zs m a k (omega arith) in
             let b : datum (zs ! suc k) - thickness zs k ≡ datum (zs ! k) = omega arith in (
               rw b (record { thick = omega arith; thin = n; above = omega arith; allowed = rw (b, t) w }, i .0),
               rw b (ap₂ _+_ (i .1) (ap (λ (z : ℤ). p .layerError z (thickness zs k)) (sym (at-datum p bound zs m a k (omega arith))))),
@@ -119,7 +118,7 @@ module _ (p : Plate) (bound : ℕ) where
     built-at h e = rw (height-only h (datum (zs ! m)) (sym e ∙ at-datum p bound zs m a m (omega arith))) (built-datum m (omega arith))
 
   -- ---- one height and one count
-  module _ (m h : ℕ) (high : h < p .N + tmax (p .T) + 32) where
+  module _ (m h : ℕ) where
     -- the layers of a sequence that ends there, and the least error there
     record Below (zs : List ℤ) : Type 0 where
       built : working.Built (rulesOf p bound) h (layersUnder zs m)
@@ -130,7 +129,7 @@ module _ (p : Plate) (bound : ℕ) where
 
     below : (zs : List ℤ) → Ending p bound m (heightOf h) zs → Below zs
     below zs a =
-        let b = built-at m zs (a .stack) (rw (a .ends, pos-height (p .N + tmax (p .T))) (lt-up h (p .N + tmax (p .T) + 32) high)) h (a .ends) in
+        let b = built-at m zs (a .stack) h (a .ends) in
         let x = at-most-some _ _
         (subst (λ (k : ℕ). AtMost (least (rulesOf p bound) k h) (working.errorOf (rulesOf p bound) h (layersUnder zs m))) (length-under zs m)
         (least-le (rulesOf p bound) h (layersUnder zs m) (b .0))) in

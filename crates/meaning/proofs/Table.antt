@@ -14,11 +14,11 @@ use Rattle.paper.specs.Layer.{Plate, tmax}
 use Rattle.paper.specs.Table.{rows, cells, cellIndex, startAt, thicknessAt, cellOf, Table, natural, cellAt, ofTable}
 use Rattle.paper.specs.Sequence.{Chosen, None}
 use Rattle.paper.specs.Groups.{Usable, sumOf, Divided}
-use Rattle.paper.proofs.Thicknesses.{allowed-from, allowed-tmax}
+use Rattle.paper.proofs.Thicknesses.{allowed-from, allowed-to, allowed-tmax}
 use Rattle.plate.specs.Datum.{datum, heightOf}
 use Rattle.plate.proofs.Datum.{over, height-datum, lt-down, pos-height, sum-height}
 use Rattle.meaning.specs.Working.{Agree, cellSum}
-use Rattle.meaning.proofs.Sequence.{start-datum}
+use Rattle.meaning.proofs.Sequence.{end-datum}
 use Rattle.meaning.proofs.Usable.{agree-back, same-chosen, same-none}
 
 -- the row of a start: how far it is above the table's first
@@ -30,15 +30,19 @@ abbrev pub index : ℕ → ℤ → ℕ → ℕ
 index T z t = cellIndex (tmax T) (rowAt T z) t
 
 module _ (N T : ℕ) (z : ℤ) (t : ℕ) (u : Usable N T z t) where
+  -- it ends above 0, and is no thicker than tmax
+  low : 32 - tmax T < datum z
+  low = omega (arith, end-datum z t (allowed-to T t (u .member)) (u .ends-above), allowed-tmax T t (u .member), allowed-to T t (u .member))
+
   -- the two digits of the index
   at-datum : z ≡ heightOf (datum z)
-  at-datum = sym (height-datum z (omega (arith, start-datum T z (u .from))))
+  at-datum = sym (height-datum z (omega (arith, low)))
 
   row-sum : z +ℤ pos (tmax T - 1) ≡ pos (datum z + (tmax T - 1) - 32)
   row-sum =
       ap (λ x. x +ℤ pos (tmax T - 1)) at-datum
       ∙ sum-height (datum z) (tmax T - 1)
-      ∙ over (datum z + (tmax T - 1)) (omega (arith, start-datum T z (u .from)))
+      ∙ over (datum z + (tmax T - 1)) (omega (arith, low))
 
   row-is : rowAt T z ≡ datum z + (tmax T - 1) - 32
   row-is = ap natural row-sum
@@ -50,9 +54,8 @@ module _ (N T : ℕ) (z : ℤ) (t : ℕ) (u : Usable N T z t) where
   pub usable-cell : index T z t < cells N T
   unfolding cells rows
   usable-cell =
-      let low = start-datum T z (u .from) in
-      let high = lt-down (datum z + t) (N + tmax T + 32) (rw (pos-height (N + tmax T), at-datum, sum-height (datum z) t) at (u .to)) in
-      digits-lt (omega (arith, row-is, digit, allowed-from T t (u .member))) digit
+      let high = lt-down (datum z) (N + 32) (rw (pos-height N, at-datum) at (u .starts-below)) in
+      digits-lt (omega (arith, row-is, digit, low)) digit
 
   -- the start and the thickness come back from the index
   start-back : startAt T (index T z t) ≡ z

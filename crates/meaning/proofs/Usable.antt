@@ -14,7 +14,7 @@ use Rattle.meaning.proofs.Stacks.{layers-usable}
 
 -- the layers of an admissible sequence are usable
 pub sequence-usable : (p : Plate) (bound : ℕ) (zs : List ℤ) → Admissible p bound zs → (k : ℕ) → k < count zs → Usable (p .N) (p .T) (zs ! k) (thickness zs k)
-sequence-usable p bound zs a k l = layers-usable p bound zs (count zs) (a .stack) (a .ends-below) k l
+sequence-usable p bound zs a k l = layers-usable p bound zs (count zs) (a .stack) k l
 
 -- what is admissible for a plate is so for another of the same height and thicknesses whose errors are no more
 pub smaller-admissible : (p : Plate) (other : ℤ → ℕ → ℕ) → ((z : ℤ) (t : ℕ) → Usable (p .N) (p .T) z t → other z t ≤ p .layerError z t)
