@@ -79,7 +79,7 @@ module _ (held : Held) (settings : SettingsOf held) (b : Bounded held) where
       let l : length (a .0) ≡ n + 1 = omega arith in
       let t : take (n + 1) out ≡ a .0 = ap₂ take (sym l) (a .3) ∙ take-front (a .0) _ in
       ap (λ (zs : List ℤ). answerOf (recounting held bound zs)) t
-      ∙ recounts held settings bound (a .0) b (a .1 .admissible)
+      ∙ recounts held settings b bound (a .0) (a .1 .admissible)
       ∙ sym (a .2)
 
 -- ---- on another plate whose errors agree

@@ -10,7 +10,6 @@ use native.Mathlib.Omega.{arith}
 use lib.Arith.{digits-lt}
 use lib.IntN.{ℤ, pos, _-ℤ_, +ℤ-negℤ-cancel}
 use lib.ListN.{getD}
-use lib.Signed.{_<ℤ_}
 use Rattle.lists.proofs.Grid.{flat-at}
 use Rattle.paper.specs.Limits.{largestBound}
 use Rattle.paper.specs.Layer as paper
@@ -22,7 +21,7 @@ use Rattle.paper.proofs.Thicknesses.{tmax-le}
 use Rattle.plate.specs.Call.{leftBy}
 use Rattle.plate.specs.Datum.{heightOf, atRow}
 use Rattle.plate.specs.Head.{Held}
-use Rattle.plate.proofs.Datum.{lt-up, pos-height, sum-height}
+use Rattle.plate.proofs.Datum.{pos-height, sum-height}
 use Rattle.sequence.specs.Sequence.{Rules}
 use Rattle.sequence.specs.Least.{least, last}
 use Rattle.sequence.specs.Sheets.{mark, errorEntry, thicknessEntry}
@@ -44,13 +43,6 @@ row-height T row thick =
     let e : atRow (tmax T) row + (tmax T - 1) ≡ row + 32 = omega arith in
     ap (λ (x : ℤ). x -ℤ pos (tmax T - 1)) (pos-height row ∙ ap heightOf (sym e) ∙ sym (sum-height (atRow (tmax T) row) (tmax T - 1)))
     ∙ +ℤ-negℤ-cancel (heightOf (atRow (tmax T) row)) (pos (tmax T - 1))
-
-row-under : (N T row : ℕ) → 1 ≤ tmax T → row < heights N T → atRow (tmax T) row < N + tmax T + 32
-unfolding heights
-row-under N T row thick l = let u = tmax-le T in omega arith
-
-row-low : (N T row : ℕ) → 1 ≤ tmax T → row < heights N T → rowHeight T row <ℤ pos (N + tmax T)
-row-low N T row thick l = rw (row-height T row thick, pos-height (N + tmax T)) (lt-up (atRow (tmax T) row) (N + tmax T + 32) (row-under N T row thick l))
 
 -- ---- over the table
 
@@ -88,7 +80,7 @@ module _ (held : Held) (settings : SettingsOf held) (b : Bounded held) (bound : 
       (getD (planned N T bound (held .buffer) lent .thicknesses) (entryIndex (M N T) row m) 0)
   entries-are row m l u =
       rw (at-errors row m l u, at-thicknesses row m l u, row-height T row (settings .some-thickness))
-      (sheets.entries (plateOf held) bound m (atRow (tmax T) row) (row-under N T row (settings .some-thickness) l))
+      (sheets.entries (plateOf held) bound m (atRow (tmax T) row))
 
   list-is : (n : ℕ) → 1 ≤ n → n ≤ M N T → Listed (plateOf held) bound n (getD (planned N T bound (held .buffer) lent .leasts) (n - 1) 0)
   list-is n low high = go (found (plateOf held) bound n) refl
@@ -112,9 +104,9 @@ module _ (held : Held) (settings : SettingsOf held) (b : Bounded held) (bound : 
 
 -- ---- on another plate whose errors agree
 
-pub fills-agree : (p : paper.Plate) (other : ℤ → ℕ → ℕ) → Agree p other → 1 ≤ tmax (p .T) → (bound : ℕ) (sheets : Sheets) → Fills p bound sheets → Fills (part p other) bound sheets
-fills-agree p other agree thick bound sheets f = record {
-  entries = λ row m l u. same-entries p other agree bound m (rowHeight (p .T) row) (row-low (p .N) (p .T) row thick l) _ _ (f .entries row m l u);
+pub fills-agree : (p : paper.Plate) (other : ℤ → ℕ → ℕ) → Agree p other → (bound : ℕ) (sheets : Sheets) → Fills p bound sheets → Fills (part p other) bound sheets
+fills-agree p other agree bound sheets f = record {
+  entries = λ row m l u. same-entries p other agree bound m (rowHeight (p .T) row) _ _ (f .entries row m l u);
   list = λ n low high. listed n _ (f .list n low high);
 }
   where

@@ -5,6 +5,7 @@ pub mod Tables
 pub mod Groups
 pub mod Plans
 pub mod Recounts
+pub mod EmptyLayers
 pub mod Refusals
 pub mod Orders
 pub mod Told

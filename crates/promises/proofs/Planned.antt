@@ -30,7 +30,7 @@ module _ (held : Held) (bound : ℕ) (small : bound ≤ largestBound) (lent : Sh
     agreeing-plans : (other : ℤ → ℕ → ℕ) → Agree (plateOf held) other → Plans (part (plateOf held) other) held bound lent
     agreeing-plans other agree = record {
       answer = plan-done held settings b bound lent room;
-      fills = fills-agree (plateOf held) other agree (settings .some-thickness) bound (leftBy (planning held bound lent)) (plan-fills held settings b bound small lent room);
+      fills = fills-agree (plateOf held) other agree bound (leftBy (planning held bound lent)) (plan-fills held settings b bound small lent room);
       reads = counts-read (part (plateOf held) other) bound (leftBy (planning held bound lent))
           (λ n low high out fits. answers-agree (plateOf held) other agree bound n _ out _ (demand-2 held settings b bound lent small room n low high out fits));
     }

@@ -54,7 +54,7 @@ use Rattle.promises.specs.Plans.{Room, Answers, ReadsBack}
 
 -- ---- the rules of a table are those of its plate
 
-cell-height : (T : ℕ) → 1 ≤ tmax T → (table : List ℕ) (h t : ℕ) → cellAt T table (heightOf h) t ≡ cellFrom T table h t
+pub cell-height : (T : ℕ) → 1 ≤ tmax T → (table : List ℕ) (h t : ℕ) → cellAt T table (heightOf h) t ≡ cellFrom T table h t
 cell-height T l table h t = cell-is T l table (heightOf h) t ∙ ap (λ (g : ℕ). cellFrom T table g t) (datum-height h)
 
 pub rules-are : (N T bound : ℕ) (table : List ℕ) → 1 ≤ tmax T → planRules N T bound table ≡ meaning.rulesOf (ofTable N T table) bound
@@ -80,7 +80,7 @@ module _ (p : paper.Plate) (bound : ℕ) (settings : paper.Settings (p .N) (p .T
   layer-bound : (h t : ℕ) → working.Layer R h t → cell (h - t) t ≤ bound
   layer-bound h t l = leb-true _ _ (and-true (shape N T (h - t) t) (leb (cell (h - t) t) bound) (l .allowed) .1)
 
-  few : (n : ℕ) → n ≤ M N T → n ≤ 574
+  few : (n : ℕ) → n ≤ M N T → n ≤ 512
   few n l = let k = sound N T settings in omega (arith, k .few-counts)
 
   pub least-small : (n h : ℕ) → n ≤ M N T → Small (working-least.least R n h)
@@ -113,11 +113,11 @@ module _ (p : paper.Plate) (bound : ℕ) (settings : paper.Settings (p .N) (p .T
 
     -- the chosen sequence of the planner, and what is read
     module _ (n : ℕ) (some-layer : 1 ≤ n) (within : n ≤ M N T) where
-      walk-fine : (e h : ℕ) → working-least.top R n ≡ found e h → faultUnder (entry N T thicknesses) N T n h ≡ none
+      walk-fine : (e h : ℕ) → working-least.top R n ≡ found e h → faultUnder (entry N T thicknesses) N T n n h ≡ none
       unfolding working-least.top
       walk-fine e h q =
           let i = best-in (λ g. working-least.least R n g) (lowestEnd N) (tmax T) e h q in
-          no-fault N T bound cell (entry N T thicknesses) last-entry n h e within (i .1) (i .2)
+          no-fault N T bound cell (entry N T thicknesses) last-entry n n h e within (i .1) (i .2)
 
       walk-is : (e h : ℕ) → working-least.top R n ≡ found e h → (rest : List ℤ)
           → boundariesUnder (entry N T thicknesses) n h rest ≡ map heightOf (working.boundaries (record { top = h; layers = working-least.walk R n h })) ++ rest
@@ -165,7 +165,7 @@ module _ (p : paper.Plate) (bound : ℕ) (settings : paper.Settings (p .N) (p .T
         unfolding entryChecks
         some-read e h q =
             let d : endOf N T errors n ≡ found e h = end-is n within ∙ q in
-            let f : faultUnder (entry N T thicknesses) N T n h ≡ none = walk-fine e h q in
+            let f : faultUnder (entry N T thicknesses) N T n n h ≡ none = walk-fine e h q in
             answer-is ∙ rw (d, f)
 
         out-is : (e h : ℕ) → working-least.top R n ≡ found e h

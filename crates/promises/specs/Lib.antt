@@ -1,6 +1,8 @@
 pub mod Runs
 pub mod Errors
 pub mod Plans
+pub mod Recounts
+pub mod EmptyLayers
 pub mod Refusals
 pub mod Orders
 pub mod Told

@@ -76,7 +76,7 @@ pub record Orders : Type 0 where
   pub plan : (held : Held) (bound : ℕ) (lent : Sheets) → CallByLine (planning held bound lent) (1 ∷ 2 ∷ 3 ∷ 3 ∷ 3 ∷ 3 ∷ 7 ∷ 6 ∷ [])
   pub read-back : (N T : ℕ) (errors thicknesses : List ℕ) (n : ℕ) (out : List ℤ)
       → CallByLine (reading N T errors thicknesses n out) (1 ∷ 2 ∷ 3 ∷ 3 ∷ 10 ∷ 3 ∷ 11 ∷ 12 ∷ [])
-  pub recount : (held : Held) (bound : ℕ) (zs : List ℤ) → CallByLine (recounting held bound zs) (1 ∷ 2 ∷ 3 ∷ 7 ∷ 6 ∷ 13 ∷ 13 ∷ 13 ∷ [])
+  pub recount : (held : Held) (bound : ℕ) (zs : List ℤ) → CallByLine (recounting held bound zs) (1 ∷ 2 ∷ 3 ∷ 7 ∷ 6 ∷ 13 ∷ 13 ∷ [])
   pub picture : (N T : ℕ) (bs : List ℕ) (z : ℤ) (t : ℕ)
       → ByLine (pictureAnswer N T bs z t) (pictureChecks N T bs z t) (judgement bs z t) (1 ∷ 2 ∷ 4 ∷ 5 ∷ 13 ∷ 13 ∷ [])
   pub motor : (s : ℕ) (z : ℤ) → ByLine (heightAnswer s z) (heightChecks s z) (over (z *ℤ pos s) 8) (14 ∷ 15 ∷ [])
