@@ -4,8 +4,8 @@ What the trial programs must print is made from here, by expected-calls, expecte
 from the library's sources. Voxels are counted one by one, the sequences of a small plate are listed and judged by the definition, and a call asks its
 refusals one after the other in the order that the document names them.
 
-A rule that a request of document 02 moves stands in one place: M in `greatest_count`, what is admissible in `may_start`, `may_end` and
-`is_layer`, what goes with a table in `Head`, the number of each fault of a file in `FAULTS`.
+A rule that a request of document 02 moves stands in one place: M in `greatest_count`, what is admissible in `may_start`, `may_end`,
+`may_end_first`, `may_start_last` and `is_layer`, what goes with a table in `Head`, the number of each fault of a file in `FAULTS`.
 
 A lent buffer is a list as long as what is lent. A call changes it in place, and only where nothing is refused.
 """
@@ -96,8 +96,8 @@ def plate_of(height, members):
 
 
 def greatest_count(plate):
-    """M, the greatest count asked for."""
-    return (plate.height + 2 * plate.tmax - 2) // plate.tmin
+    """M, the greatest count asked for: request b)'s, which is the most layers that a sequence of such settings can have."""
+    return 1 if plate.height == 1 else (plate.height - 2) // plate.tmin + 2
 
 
 def is_wrong_count(count):
@@ -207,6 +207,16 @@ def may_end(plate, z):
     return plate.height <= z < plate.height + plate.tmax
 
 
+def may_end_first(z):
+    """Request b): z1 above 0, so that the first layer is not wholly under the plate."""
+    return z > 0
+
+
+def may_start_last(plate, z):
+    """Request b): the last boundary but one below N, so that the last layer is not wholly over the plate."""
+    return z < plate.height
+
+
 def is_layer(plate, below, above):
     return above - below in plate.thicknesses
 
@@ -215,11 +225,17 @@ def layer_errors(plate, table, sequence):
     return [table[plate.cell_of[below, above - below]] for below, above in layers(sequence)]
 
 
+def are_outer_layers_on(plate, sequence):
+    """z1 above 0 and the last boundary but one below N. Of no layers there is neither."""
+    return len(sequence) == 1 or may_end_first(sequence[1]) and may_start_last(plate, sequence[-2])
+
+
 def sequences(plate, count, end):
-    """Every sequence of so many layers that ends there and starts where it may."""
+    """Every sequence of so many layers that ends there, starts where it may, and has no outer layer with nothing on it."""
     for thicknesses in itertools.product(plate.thicknesses, repeat=count):
         sequence = [end - sum(thicknesses[k:]) for k in range(count + 1)]
-        if may_start(plate, sequence[0]) and all(is_layer(plate, below, above) for below, above in layers(sequence)):
+        are_layers = all(is_layer(plate, below, above) for below, above in layers(sequence))
+        if may_start(plate, sequence[0]) and are_layers and are_outer_layers_on(plate, sequence):
             yield sequence
 
 
@@ -259,6 +275,11 @@ def sheets_by_definition(plate, table, bound):
     return [entry(plate, table, bound, count, end) for end, count in plate.entries]
 
 
+def is_layer_on(plate, below, above):
+    """The same two rules asked of every layer. Boundaries rise: with z1 above 0 all ends are, with the last but one below N all starts are."""
+    return is_layer(plate, below, above) and may_end_first(above) and may_start_last(plate, below)
+
+
 def sheets_by_rows(plate, table, bound):
     """The same for any plate: the best last layer on the best of what is below it, the thinnest of several."""
     best = {}
@@ -266,7 +287,7 @@ def sheets_by_rows(plate, table, bound):
         row = [(0 if may_start(plate, end) else NONE, 0)] + [(NONE, 0)] * greatest_count(plate)
         for t in plate.thicknesses:
             below = best.get(end - t)
-            if below is None or not is_layer(plate, end - t, end) or table[plate.cell_of[end - t, t]] > bound:
+            if below is None or not is_layer_on(plate, end - t, end) or table[plate.cell_of[end - t, t]] > bound:
                 continue
             error = table[plate.cell_of[end - t, t]]
             for m, (least, _) in enumerate(below[:-1]):
@@ -388,9 +409,12 @@ def read_back(height, members, errors, thicknesses, count, out):
     refuse(11, least == NONE)
     sequence = [height_now]
     for layer in range(count, 0, -1):
-        t = thicknesses[plate.entry_of[sequence[0], layer]]
-        refuse(12, not is_layer(plate, sequence[0] - t, sequence[0]) or sequence[0] - t < -(plate.tmax - 1), layer)
-        sequence.insert(0, sequence[0] - t)
+        above = sequence[0]
+        below = above - thicknesses[plate.entry_of[above, layer]]
+        refuse(12, not is_layer(plate, below, above) or below < -(plate.tmax - 1), layer)
+        refuse(12, layer == count and not may_start_last(plate, below), layer)
+        refuse(12, layer == 1 and not may_end_first(above), layer)
+        sequence.insert(0, below)
     refuse(12, sequence[0] > 0)
     out[:count + 1] = sequence
     return least
@@ -398,11 +422,14 @@ def read_back(height, members, errors, thicknesses, count, out):
 
 def recount(table, head, bound, sequence):
     plate = check_table(table, head)
-    refuse(13, len(sequence) < 2 or not may_start(plate, sequence[0]))
+    last = len(sequence) - 1
+    refuse(13, last < 1 or not may_start(plate, sequence[0]))
     for index, (below, above) in enumerate(layers(sequence), 1):
         refuse(13, not is_layer(plate, below, above) or above > plate.height + plate.tmax - 1, index)
         refuse(13, table[plate.cell_of[below, above - below]] > bound, index)
-    refuse(13, sequence[-1] < plate.height, len(sequence) - 1)
+        refuse(13, index == 1 and not may_end_first(above), index)
+        refuse(13, index == last and not may_start_last(plate, below), index)
+        refuse(13, index == last and above < plate.height, index)
     return sum(layer_errors(plate, table, sequence))
 
 
@@ -578,6 +605,11 @@ def jobs_in(data):
         length, = struct.unpack_from("<H", data, at)
         yield data[at + 2:at + 2 + length]
         at += 2 + length
+
+
+def outside_jobs(data):
+    """Those of them that are outside vectors: the first 220 of what the program trial_jobs is run on."""
+    return list(jobs_in(data))[:220]
 
 
 # ---- Saving a plate, request a) of document 02
