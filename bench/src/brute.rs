@@ -1,5 +1,6 @@
-// Document 01 a second time, by listing: every admissible sequence of a small plate is written out, and the chosen one is picked by the
-// definition. Errors come straight from the columns, voxel by voxel; no table and no sheet is used. Shares no code with plain.rs.
+// Document 01 a second time, with 02's b), by listing: every sequence of a small plate is written out, those with a layer wholly under or over
+// the plate are struck off the list, and the chosen one is picked by the definition. Errors come straight from the columns, voxel by voxel;
+// no table is used, and a sheet only to be followed down. Shares no code with plain.rs.
 
 use std::collections::BTreeMap;
 
@@ -29,6 +30,12 @@ impl Sequence {
     /// From the last layer down.
     pub fn thicknesses(&self) -> Vec<i64> {
         self.boundaries.windows(2).rev().map(|pair| pair[1] - pair[0]).collect()
+    }
+
+    /// Whether no layer lies wholly under or over a plate of the height: z1 is above 0, and the last boundary but one below N.
+    fn keeps_to(&self, height: i64) -> bool {
+        let (z1, last_but_one) = (self.boundaries[1], self.boundaries[self.count() - 1]);
+        z1 > 0 && last_but_one < height
     }
 
     /// Least error first, then the smallest zn, then the thinnest last layer, and so on down.
@@ -78,9 +85,14 @@ impl Plate {
         *self.set.iter().max().expect("the set is not empty")
     }
 
+    /// M, by piling up the thinnest layers: the first ends at 1, and the first that ends at N or above is the last.
     pub fn greatest_count(&self) -> usize {
-        let room = self.height + 2 * self.tmax() - 2;
-        (room / self.tmin()) as usize
+        let (mut end, mut layers) = (1, 1);
+        while end < self.height {
+            end += self.tmin();
+            layers += 1;
+        }
+        layers
     }
 
     pub fn table(&self) -> Vec<u32> {
@@ -94,7 +106,8 @@ impl Plate {
         cells
     }
 
-    /// Every sequence that starts as it may, keeps to T and the bound, and ends below N+tmax; those that end below N are among them.
+    /// Every sequence that starts as it may, keeps to T and the bound, and ends below N+tmax; those that end below N are among them, and
+    /// those with layers wholly under or over the plate.
     pub fn every_sequence(&self) -> Vec<Sequence> {
         let mut errors = BTreeMap::new();
         let mut all = Vec::new();
@@ -130,11 +143,54 @@ impl Plate {
             self.set.contains(&thickness) && layer_error(&self.columns, pair[0], thickness) <= self.bound
         };
         let ends = -self.tmax() < first && first <= 0 && self.height <= last && last < self.height + self.tmax();
-        ends && boundaries.windows(2).all(layer)
+        let on_plate = boundaries[1] > 0 && boundaries[boundaries.len() - 2] < self.height;
+        ends && on_plate && boundaries.windows(2).all(layer)
+    }
+
+    /// The lowest index at which recounting finds a fault.
+    pub fn first_fault(&self, boundaries: &[i64]) -> Option<usize> {
+        if boundaries.len() < 2 || boundaries[0] <= -self.tmax() || boundaries[0] > 0 {
+            return Some(0);
+        }
+        let n = boundaries.len() - 1;
+        let (z, t) = (|i: usize| boundaries[i], |i: usize| boundaries[i] - boundaries[i - 1]);
+        let mut faults: Vec<usize> = (1..=n).filter(|&i| !self.set.contains(&t(i))).collect();
+        faults.extend((1..=n).filter(|&i| z(i) >= self.height + self.tmax()));
+        faults.extend((1..=n).filter(|&i| layer_error(&self.columns, z(i - 1), t(i)) > self.bound));
+        faults.extend((z(1) <= 0).then_some(1));
+        faults.extend((z(n - 1) >= self.height).then_some(n));
+        faults.extend((z(n) < self.height).then_some(n));
+        faults.into_iter().min()
+    }
+
+    /// The heights that a thickness sheet names from an end down, as far as its layers lead.
+    pub fn named(&self, end: i64, count: usize, thickness_at: impl Fn(i64, usize) -> i64) -> Vec<i64> {
+        let mut heights = vec![end];
+        for layer in (1..=count).rev() {
+            let height = heights[count - layer];
+            let thickness = thickness_at(height, layer);
+            if !self.set.contains(&thickness) || height - thickness <= -self.tmax() {
+                break;
+            }
+            heights.push(height - thickness);
+        }
+        heights
+    }
+
+    /// Of the faults in heights named so, the layer of the one that is met first on the way down, the highest; 0 for an end above 0.
+    pub fn fault_met(&self, heights: &[i64], count: usize) -> Option<usize> {
+        let z = |index: usize| heights.get(count - index).copied();
+        let is_cut = heights.len() <= count;
+        let mut faults = Vec::new();
+        faults.extend(is_cut.then(|| count + 1 - heights.len()));
+        faults.extend(z(count - 1).filter(|&z| z >= self.height).map(|_| count));
+        faults.extend(z(1).filter(|&z| z <= 0).map(|_| 1));
+        faults.extend(z(0).filter(|&z| z > 0).map(|_| 0));
+        faults.into_iter().max()
     }
 }
 
-/// The chosen sequence of each count and end, and of each count among those that end at N or above.
+/// The chosen sequence of each count and end, and of each count among those that end at N or above; none has a layer with nothing on it.
 pub struct Chosen {
     pub ending: BTreeMap<(i64, usize), Sequence>,
     pub whole: BTreeMap<usize, Sequence>,
@@ -143,7 +199,7 @@ pub struct Chosen {
 pub fn choose(plate: &Plate, all: &[Sequence]) -> Chosen {
     let mut ending = BTreeMap::new();
     let mut whole = BTreeMap::new();
-    for sequence in all {
+    for sequence in all.iter().filter(|sequence| sequence.keeps_to(plate.height)) {
         keep_better(&mut ending, (sequence.end(), sequence.count()), sequence);
         if sequence.end() >= plate.height {
             keep_better(&mut whole, sequence.count(), sequence);

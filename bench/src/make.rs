@@ -207,10 +207,16 @@ pub fn sheets(plate: Plate, table: &Table, bound: u32) -> Sheets {
 
 /// Changes entries of planned sheets, or fills them with anything.
 pub fn damage_sheets(random: &mut Random, plate: Plate, sheets: &mut Sheets) {
-    match random.below(4) {
+    match random.below(6) {
         0 => {}
         1 => damage_entries(random, plate, sheets),
-        2 => {
+        2 | 3 => {
+            lead_down(random, plate, sheets);
+            if random.one_in(2) {
+                damage_entries(random, plate, sheets);
+            }
+        }
+        4 => {
             let set: Vec<u8> = plate.thicknesses().map(|t| t as u8).chain([0, 33, 255]).collect();
             let good = set.len() - if random.one_in(2) { 3 } else { 0 };
             sheets.thicknesses.iter_mut().for_each(|t| *t = set[random.index(good)]);
@@ -220,6 +226,48 @@ pub fn damage_sheets(random: &mut Random, plate: Plate, sheets: &mut Sheets) {
             sheets.thicknesses.iter_mut().for_each(|t| *t = random.word() as u8);
             sheets.errors.iter_mut().for_each(|e| *e = random.word());
         }
+    }
+}
+
+/// Thicknesses that lead down to a start, by whatever heights: some walks are good, some have layers wholly under or over the plate.
+fn lead_down(random: &mut Random, plate: Plate, sheets: &mut Sheets) {
+    let set: Vec<i64> = plate.thicknesses().collect();
+    for height in plate.lowest()..=plate.highest() {
+        for count in 0..=plate.counts() {
+            let entry = plate.entry(height, count);
+            sheets.thicknesses[entry] = leading(random, plate, &set, height, count as i64) as u8;
+            sheets.errors[entry] = random.below(40);
+        }
+    }
+}
+
+/// One of a few thicknesses, if there is one among them from which the layers below can end in a start.
+fn leading(random: &mut Random, plate: Plate, set: &[i64], height: i64, count: i64) -> i64 {
+    let leads = |&thickness: &i64| {
+        let (start, below) = (height - thickness, count - 1);
+        start - below * plate.tmin >= plate.lowest() && start - below * plate.tmax <= 0
+    };
+    let is_outside = height <= 0 || height > plate.height;
+    let tries = [(); 4].map(|()| {
+        let led = height - edge(random, plate);
+        thickness(random, plate, set, led, is_outside)
+    });
+    tries.into_iter().find(leads).unwrap_or(tries[0])
+}
+
+/// A height at which a layer may just end, or just not: 1 and 0 for the first, N−1 and N for the last but one.
+fn edge(random: &mut Random, plate: Plate) -> i64 {
+    random.pick(&[0, 1, plate.height - 1, plate.height])
+}
+
+/// The one that leads to an edge, if it is allowed; outside the plate often the thinnest; else any.
+fn thickness(random: &mut Random, plate: Plate, set: &[i64], led: i64, is_outside: bool) -> i64 {
+    if plate.allows(led) {
+        led
+    } else if is_outside && random.one_in(2) {
+        plate.tmin
+    } else {
+        random.pick(set)
     }
 }
 
@@ -248,31 +296,38 @@ pub fn count(random: &mut Random, plate: Plate) -> u32 {
 
 // ---- Sequences ----
 
-/// Boundaries that rise by allowed thicknesses, mostly up to the plate's top, then damaged now and then.
+/// Boundaries that rise by allowed thicknesses, mostly from the plate's foot to its top, then damaged now and then.
 pub fn sequence(random: &mut Random, plate: Plate) -> Vec<i32> {
     let mut sequence = rising(random, plate);
     for _ in 0..random.pick(&[0, 0, 0, 1, 1, 3]) {
-        damage_sequence(random, &mut sequence);
+        damage_sequence(random, plate, &mut sequence);
     }
     sequence
 }
 
+/// Many have z1 above 0 and their last boundary but one below N; others have layers wholly under or over the plate.
 fn rising(random: &mut Random, plate: Plate) -> Vec<i32> {
+    let (top, highest) = (plate.height, plate.highest());
     let set: Vec<i64> = plate.thicknesses().collect();
-    let mut z = random.within(plate.lowest(), 0);
+    let mut layer = thickness(random, plate, &set, 0, true);
+    let (good, any) = (random.within(1 - layer, 0), random.within(plate.lowest(), 0));
+    let mut z = random.pick(&[good, good, 1 - layer, -layer, any]).max(plate.lowest());
+    let some = random.within(top, highest);
+    let end = random.pick(&[top, top, top, some, some, highest, highest + 1, 0]);
     let mut sequence = vec![z as i32];
-    let end = random.pick(&[plate.height, plate.height, plate.highest(), 0]);
     while z < end {
-        z += random.pick(&set);
+        z += layer;
         sequence.push(z as i32);
+        let led = edge(random, plate) - z;
+        layer = thickness(random, plate, &set, led, z < 0 || z >= top);
     }
     sequence
 }
 
-fn damage_sequence(random: &mut Random, sequence: &mut Vec<i32>) {
+fn damage_sequence(random: &mut Random, plate: Plate, sequence: &mut Vec<i32>) {
     let place = random.index(sequence.len() + 1);
-    let (any, near) = (random.word() as i32, random.within(-70, 600) as i32);
-    let value = random.pick(&[any, near, near, i32::MIN, i32::MAX, -32, 0, 1]);
+    let (any, near, top) = (random.word() as i32, random.within(-70, 600) as i32, plate.height as i32);
+    let value = random.pick(&[any, near, near, i32::MIN, i32::MAX, -32, 0, 1, top - 1, top]);
     match random.below(5) {
         0 => sequence.insert(place, value),
         1 if place < sequence.len() => sequence[place] = value,

@@ -1,4 +1,5 @@
-// Document 01 once more, and 02's writer of job files, in plain safe Rust: every call by its definition, voxel by voxel and cell by cell.
+// Document 01 once more, with 02's writer of job files and its b), no layer with nothing on it, in plain safe Rust: every call by its
+// definition, voxel by voxel and cell by cell.
 // Each call first gives the refusals in document 01's order; only after the last of them is anything lent written.
 // Heights, starts and thicknesses are i64 here, so that no difference of two inputs can overflow.
 
@@ -89,14 +90,27 @@ impl Plate {
         ((self.height + 2 * self.tmax - 2) * self.tmax) as usize
     }
 
-    /// M, the greatest count asked for.
+    /// M, the greatest count asked for: document 02, b).
     pub fn counts(self) -> usize {
-        ((self.height + 2 * self.tmax - 2) / self.tmin) as usize
+        if self.height == 1 {
+            return 1;
+        }
+        ((self.height - 2) / self.tmin + 2) as usize
     }
 
     /// The entries of a sheet.
     pub fn entries(self) -> usize {
         (self.height + 2 * self.tmax - 1) as usize * (self.counts() + 1)
+    }
+
+    /// Document 02, b): z1 is above 0, so that no layer is wholly under the plate.
+    fn may_end_first(self, first_end: i64) -> bool {
+        first_end > 0
+    }
+
+    /// Document 02, b): the last boundary but one is below N, so that no layer is wholly over the plate.
+    fn may_start_last(self, last_start: i64) -> bool {
+        last_start < self.height
     }
 
     pub fn cell(self, start: i64, thickness: i64) -> usize {
@@ -366,11 +380,15 @@ pub fn plan(table: &[u32], head: Head, bound: u32, sheets: Sheets) -> Answer<u64
 }
 
 /// The least error of so many layers ending at the height, and the last thickness of the chosen sequence; lower heights are in the sheet.
+/// There the first layer of two or more was held to z1 above 0 already.
 fn least(plate: Plate, table: &[u32], bound: u32, errors: &[u64], height: i64, count: usize) -> (u64, i64) {
     if count == 0 {
         return (if height <= 0 { 0 } else { NONE }, 0);
     }
     let mut best = (NONE, 0);
+    if count == 1 && !plate.may_end_first(height) {
+        return best;
+    }
     for thickness in plate.thicknesses() {
         let start = height - thickness;
         if start < plate.lowest() {
@@ -378,7 +396,8 @@ fn least(plate: Plate, table: &[u32], bound: u32, errors: &[u64], height: i64, c
         }
         let before = errors[plate.entry(start, count - 1)];
         let error = table[plate.cell(start, thickness)];
-        if before != NONE && error <= bound && before + u64::from(error) < best.0 {
+        let is_layer = plate.may_start_last(start) && error <= bound;
+        if before != NONE && is_layer && before + u64::from(error) < best.0 {
             best = (before + u64::from(error), thickness);
         }
     }
@@ -419,16 +438,20 @@ pub fn read_back(height: u32, set: u32, sheets: Filled, count: u32, out: &mut [i
     Ok(error)
 }
 
-/// The boundaries from z0 up, or 12.
+/// The boundaries from z0 up, or 12 at the first layer on the way down that is at fault.
 fn walk_down(plate: Plate, thicknesses: &[u8], end: i64, count: usize) -> Answer<Vec<i32>> {
     let mut boundaries = vec![end as i32];
     let mut height = end;
     for layer in (1..=count).rev() {
         let thickness = i64::from(thicknesses[plate.entry(height, layer)]);
-        if !plate.allows(thickness) || height - thickness < plate.lowest() {
+        let start = height - thickness;
+        let is_step = plate.allows(thickness) && start >= plate.lowest();
+        let first_fits = layer > 1 || plate.may_end_first(height);
+        let last_fits = layer < count || plate.may_start_last(start);
+        if !(is_step && first_fits && last_fits) {
             return refuse(12, layer as u64);
         }
-        height -= thickness;
+        height = start;
         boundaries.push(height as i32);
     }
     if height > 0 {
@@ -447,21 +470,20 @@ pub fn recount(table: &[u32], head: Head, bound: u32, sequence: &[i32]) -> Answe
     if heights.len() < 2 || heights[0] < plate.lowest() || heights[0] > 0 {
         return refuse(13, 0);
     }
+    let last = heights.len() - 1;
     let mut error = 0;
-    for i in 1..heights.len() {
-        let thickness = heights[i] - heights[i - 1];
-        if !plate.allows(thickness) || heights[i] > plate.highest() {
+    for i in 1..=last {
+        let (start, end) = (heights[i - 1], heights[i]);
+        if !plate.allows(end - start) || end > plate.highest() {
             return refuse(13, i as u64);
         }
-        let layer = table[plate.cell(heights[i - 1], thickness)];
-        if layer > bound {
+        let layer = table[plate.cell(start, end - start)];
+        let first_fits = i > 1 || plate.may_end_first(end);
+        let last_fits = i < last || plate.may_start_last(start) && end >= plate.height;
+        if layer > bound || !first_fits || !last_fits {
             return refuse(13, i as u64);
         }
         error += u64::from(layer);
-    }
-    let last = heights.len() - 1;
-    if heights[last] < plate.height {
-        return refuse(13, last as u64);
     }
     Ok(error)
 }

@@ -1,6 +1,6 @@
-// Document 01's calls, and 02's writer of job files, in safe Rust written for speed, to be timed beside the library: planners with the count
-// innermost, adding after the source paper's Algorithm 1, scans row by row. All refusals are given, so the work is the same; tests/quick.rs
-// holds them to plain.rs.
+// Document 01's calls, with 02's writer of job files and its b), in safe Rust written for speed, to be timed beside the library: planners with
+// the count innermost, adding after the source paper's Algorithm 1, scans row by row. All refusals are given, so the work is the same;
+// tests/quick.rs holds them to plain.rs.
 
 use crate::plain::{Answer, Columns, Filled, Head, Plate, Refusal, Sheets};
 use crate::plain::{MOST_BOUNDARIES, MOST_COLUMNS, NONE};
@@ -39,7 +39,7 @@ fn check_cells(plate: Plate, table: &[u32], columns: u32) -> Answer<()> {
 pub enum Reach {
     /// Every count from 0 to M−1.
     Every,
-    /// From 0 to the greatest that the row's rise allows.
+    /// From 0 to the greatest that the row's rise above height 1 allows; in a row at or below 0, count 0 alone.
     UpToGreatest,
     /// From the least that brings a start at or below 0 up to the row, to the greatest.
     PossibleOnly,
@@ -69,9 +69,12 @@ pub fn plan(reach: Reach, table: &[u32], head: Head, bound: u32, sheets: Sheets)
     Ok(counts as u64)
 }
 
-/// One past the greatest count that the start row can have and a layer can be put on.
+/// One past the greatest count that the start row can have; row tmax is height 1, and M bounds it since a start is below N.
 fn greatest(plate: Plate, row: usize) -> usize {
-    plate.counts().min(row / plate.tmin as usize + 1)
+    match row.checked_sub(plate.tmax as usize) {
+        Some(rise) => rise / plate.tmin as usize + 2,
+        None => 1,
+    }
 }
 
 /// The least count that the start row can have; row tmax−1 is height 0.
@@ -80,12 +83,13 @@ fn fewest(plate: Plate, row: usize) -> usize {
     row.saturating_sub(tmax - 1).div_ceil(tmax)
 }
 
-/// Fills both sheets and the list; `range` names the counts of a start row that are looked at.
+/// Fills both sheets and the list; `range` names the counts of a start row that are looked at. Rows up to height 0 have count 0 alone; a row
+/// above has layers that start below N.
 fn fill(plate: Plate, table: &[u32], bound: u32, sheets: Sheets, range: impl Fn(usize) -> (usize, usize)) {
     let (tmax, width) = (plate.tmax as usize, plate.counts() + 1);
     let thicknesses: Vec<usize> = plate.thicknesses().map(|t| t as usize).collect();
-    let rows = (plate.highest() - plate.lowest() + 1) as usize;
-    for row in 0..rows {
+    let top = plate.height as usize + tmax - 1;
+    for row in 0..top + tmax {
         let (lower, here) = sheets.errors.split_at_mut(row * width);
         let here = &mut here[..width];
         let last = &mut sheets.thicknesses[row * width..(row + 1) * width];
@@ -93,8 +97,9 @@ fn fill(plate: Plate, table: &[u32], bound: u32, sheets: Sheets, range: impl Fn(
         last.fill(0);
         if row < tmax {
             here[0] = 0;
+            continue;
         }
-        for &thickness in thicknesses.iter().take_while(|&&t| t <= row) {
+        for &thickness in thicknesses.iter().skip_while(|&&t| row - t >= top) {
             let start = row - thickness;
             let error = table[start * tmax + thickness - 1];
             let (from, to) = range(start);
@@ -404,10 +409,12 @@ pub fn read_back(height: u32, set: u32, sheets: Filled, count: u32, out: &mut [i
     Ok(error)
 }
 
-/// The boundaries of the sequence, or 12; M is at most 574.
-fn walk_down(plate: Plate, thicknesses: &[u8], end: usize, count: usize) -> Answer<[i32; 575]> {
+/// The boundaries of the sequence, or 12; M is at most 512. A start at N or above is met at the top layer or nowhere, so every layer may ask;
+/// whether z1 is above 0 is asked after the walk, since what else is at fault in layer 1 has the same place.
+fn walk_down(plate: Plate, thicknesses: &[u8], end: usize, count: usize) -> Answer<[i32; 513]> {
     let (width, tmax) = (plate.counts() + 1, plate.tmax as usize);
-    let mut boundaries = [0; 575];
+    let top = plate.height as usize + tmax - 1;
+    let mut boundaries = [0; 513];
     let mut row = end;
     for layer in (1..=count).rev() {
         boundaries[layer] = row as i32 - (tmax as i32 - 1);
@@ -416,6 +423,12 @@ fn walk_down(plate: Plate, thicknesses: &[u8], end: usize, count: usize) -> Answ
             return refuse(12, layer);
         }
         row -= thickness;
+        if row >= top {
+            return refuse(12, layer);
+        }
+    }
+    if boundaries[1] <= 0 {
+        return refuse(12, 1);
     }
     if row >= tmax {
         return refuse(12, 0);

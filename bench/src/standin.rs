@@ -62,6 +62,25 @@ pub const FAULTS: &[&str] = &[
     "write job: the end has two bytes of the column count",
     "write job: the bound is not written",
     "write job: a count is written",
+    "sizes: M has one count less where N is above 1",
+    "sizes: M is 2 for N = 1",
+    "plan: z1 may be 0",
+    "plan: the last boundary but one may be N",
+    "plan: only the lower rule",
+    "plan: the entry of count 1 at height 0 is 0",
+    "read back: z1 may be 0",
+    "read back: the last boundary but one may be N",
+    "read back: only the lower rule",
+    "read back: the first layer met that ends at or under 0 is 12",
+    "read back: of two faults the lowest layer's",
+    "read back: 10 by document 01's M",
+    "recount: z1 may be 0",
+    "recount: the last boundary but one may be N",
+    "recount: only the lower rule",
+    "recount: the first layer over the plate is 13",
+    "recount: the two rules come after the layers",
+    "picture: a layer wholly under or over the plate is 13",
+    "read job: 17 by document 01's M",
 ];
 
 fn fault() -> usize {
@@ -71,6 +90,35 @@ fn fault() -> usize {
 
 fn is(text: &str) -> bool {
     fault() != 0 && FAULTS[fault()] == text
+}
+
+/// What a call holds layers to in place of document 02's b): the least z1, and the greatest last boundary but one.
+#[derive(Clone, Copy)]
+struct Rule {
+    least: i64,
+    most: i64,
+}
+
+const NO_RULE: Rule = Rule { least: i64::MIN, most: i64::MAX };
+
+/// The wrong rule of a call, where one is planted.
+fn wrong_rule(call: &str, plate: Plate) -> Option<Rule> {
+    let right = Rule { least: 1, most: plate.height - 1 };
+    let planted = |fault: &str| is(&format!("{call}: {fault}"));
+    if planted("z1 may be 0") {
+        Some(Rule { least: 0, ..right })
+    } else if planted("the last boundary but one may be N") {
+        Some(Rule { most: plate.height, ..right })
+    } else if planted("only the lower rule") {
+        Some(Rule { most: i64::MAX, ..right })
+    } else {
+        None
+    }
+}
+
+/// M before document 02's b).
+fn counts_before(plate: Plate) -> i64 {
+    (plate.height + 2 * plate.tmax - 2) / plate.tmin
 }
 
 unsafe fn lent<'a, T>(start: *const T, length: usize) -> &'a [T] {
@@ -212,6 +260,14 @@ unsafe extern "C" fn shagorent_plan(
     if answer.is_ok() && is("plan: one entry past the list is written") {
         *list.add(head.plate().unwrap().counts()) = 0;
     }
+    if let Ok(plate) = answer.and(head.plate()) {
+        if let Some(rule) = wrong_rule("plan", plate) {
+            plan_by(rule, plate, table, bound, Sheets { errors, thicknesses, list: lent_mut(list, l) });
+        }
+        if is("plan: the entry of count 1 at height 0 is 0") {
+            errors[plate.entry(0, 1)] = 0;
+        }
+    }
     let short = answer.err().is_some_and(|r| r.number == 3);
     if short && head.columns > plain::MOST_COLUMNS && is("plan: 7 comes before 3") {
         answer = Err(Refusal { number: 7, place: 0 });
@@ -223,12 +279,35 @@ fn thickest(plate: Plate, table: &[u32], bound: u32, errors: &[u64], thicknesses
     for height in plate.lowest()..=plate.highest() {
         for count in 1..=plate.counts() {
             let entry = plate.entry(height, count);
-            for t in plate.thicknesses().filter(|t| height - t >= plate.lowest()) {
+            for t in plate.thicknesses().filter(|t| (plate.lowest()..plate.height).contains(&(height - t))) {
                 let before = errors[plate.entry(height - t, count - 1)];
                 let error = table[plate.cell(height - t, t)];
                 if before < plain::NONE && error <= bound && before + u64::from(error) == errors[entry] {
                     thicknesses[entry] = t as u8;
                 }
+            }
+        }
+    }
+}
+
+/// Both sheets and the list by another rule.
+fn plan_by(rule: Rule, plate: Plate, table: &[u32], bound: u32, sheets: Sheets) {
+    sheets.list[..plate.counts()].fill(plain::NONE);
+    for height in plate.lowest()..=plate.highest() {
+        for count in 1..=plate.counts() {
+            let mut best = (plain::NONE, 0);
+            for t in plate.thicknesses().filter(|t| height - t >= plate.lowest()) {
+                let (before, error) = (plate.entry(height - t, count - 1), table[plate.cell(height - t, t)]);
+                let sum = sheets.errors[before].saturating_add(u64::from(error));
+                let fits = (count > 1 || height >= rule.least) && height - t <= rule.most;
+                if fits && error <= bound && sum < best.0 {
+                    best = (sum, t);
+                }
+            }
+            let entry = plate.entry(height, count);
+            (sheets.errors[entry], sheets.thicknesses[entry]) = (best.0, best.1 as u8);
+            if height >= plate.height {
+                sheets.list[count - 1] = sheets.list[count - 1].min(best.0);
             }
         }
     }
@@ -259,6 +338,13 @@ unsafe extern "C" fn shagorent_read_back(
     if answer == Err(Refusal { number: 12, place: 0 }) && is("read back: an end above 0 is let through") {
         answer = Ok(0);
     }
+    if refused == 0 || refused == 12 {
+        answer = read_wrongly(Plate::new(height, set).unwrap(), sheets, count as usize, answer, out);
+    }
+    if refused == 10 && is("read back: 10 by document 01's M") {
+        let let_through = 1..=counts_before(Plate::new(height, set).unwrap());
+        answer = if let_through.contains(&i64::from(count)) { Err(Refusal { number: 11, place: 0 }) } else { answer };
+    }
     if refused == 0 && is("read back: among equal ends the highest") {
         let plate = Plate::new(height, set).unwrap();
         let entry = |h: &i64| sheets.errors[plate.entry(*h, count as usize)];
@@ -266,6 +352,58 @@ unsafe extern "C" fn shagorent_read_back(
         out[count as usize] = ends.rev().min_by_key(entry).unwrap() as i32;
     }
     as_reply(answer)
+}
+
+/// The answer by a wrong rule, where nothing before 12 refuses it.
+fn read_wrongly(plate: Plate, sheets: Filled, count: usize, answer: Answer<u64>, out: &mut [i32]) -> Answer<u64> {
+    let heights = followed(plate, sheets, count);
+    if let Some(rule) = wrong_rule("read back", plate) {
+        if let Some(layer) = first_fault(rule, &heights, count) {
+            return refused(12, layer);
+        }
+        out.iter_mut().zip(heights.iter().rev()).for_each(|(boundary, &z)| *boundary = z as i32);
+        return Ok(sheets.errors[plate.entry(heights[0], count)]);
+    }
+    let place = answer.err().map_or(u64::MAX, |r| r.place);
+    if is("read back: the first layer met that ends at or under 0 is 12") {
+        let under = heights.iter().take(count).position(|&z| z <= 0).map(|met| count - met);
+        return under.filter(|&layer| layer as u64 > place).map_or(answer, |layer| refused(12, layer));
+    }
+    if is("read back: of two faults the lowest layer's") {
+        let lower = first_fault(Rule { least: 1, ..NO_RULE }, &heights, count);
+        return lower.map_or(answer, |layer| refused(12, layer));
+    }
+    answer
+}
+
+/// The heights that sheets name for a count, from the end down, as far as its layers' thicknesses lead.
+fn followed(plate: Plate, sheets: Filled, count: usize) -> Vec<i64> {
+    let ends = plate.height..=plate.highest();
+    let mut heights = vec![ends.min_by_key(|&z| sheets.errors[plate.entry(z, count)]).unwrap()];
+    for layer in (1..=count).rev() {
+        let height = heights[count - layer];
+        let thickness = i64::from(sheets.thicknesses[plate.entry(height, layer)]);
+        if !plate.allows(thickness) || height - thickness < plate.lowest() {
+            break;
+        }
+        heights.push(height - thickness);
+    }
+    heights
+}
+
+/// The layer at fault by another rule that is met first on the way down these heights; 0 for an end above 0.
+fn first_fault(rule: Rule, heights: &[i64], count: usize) -> Option<usize> {
+    let z = |index: usize| heights.get(count - index);
+    if z(count - 1).is_some_and(|&z| z > rule.most) {
+        return Some(count);
+    }
+    if heights.len() <= count {
+        return Some(count + 1 - heights.len());
+    }
+    if z(1).is_some_and(|&z| z < rule.least) {
+        return Some(1);
+    }
+    z(0).is_some_and(|&z| z > 0).then_some(0)
 }
 
 #[no_mangle]
@@ -292,7 +430,45 @@ unsafe extern "C" fn shagorent_recount(
             answer = Ok(0);
         }
     }
+    if answer.is_ok() || refused_at.is_some_and(|i| i > 0) {
+        answer = recount_wrongly(head.plate().unwrap(), table, bound, sequence, answer);
+    }
     as_reply(answer)
+}
+
+/// The answer by a wrong rule, where nothing before 13 at a layer refuses it.
+fn recount_wrongly(plate: Plate, table: &[u32], bound: u32, sequence: &[i32], answer: Answer<u64>) -> Answer<u64> {
+    if let Some(rule) = wrong_rule("recount", plate) {
+        return recount_by(rule, plate, table, bound, sequence);
+    }
+    if is("recount: the first layer over the plate is 13") {
+        let over = sequence[..sequence.len() - 1].iter().position(|&z| i64::from(z) >= plate.height);
+        let place = answer.err().map_or(0, |r| r.place as usize);
+        return over.filter(|start| start + 1 < place).map_or(answer, |start| refused(13, start + 1));
+    }
+    if is("recount: the two rules come after the layers") {
+        return recount_by(NO_RULE, plate, table, bound, sequence).and(answer);
+    }
+    answer
+}
+
+fn recount_by(rule: Rule, plate: Plate, table: &[u32], bound: u32, sequence: &[i32]) -> Answer<u64> {
+    let last = sequence.len() - 1;
+    let mut error = 0;
+    for (i, pair) in (1..).zip(sequence.windows(2)) {
+        let (start, end) = (i64::from(pair[0]), i64::from(pair[1]));
+        if !plate.allows(end - start) || end > plate.highest() {
+            return refused(13, i);
+        }
+        let layer = table[plate.cell(start, end - start)];
+        let first_fits = i > 1 || end >= rule.least;
+        let last_fits = i < last || start <= rule.most && end >= plate.height;
+        if layer > bound || !first_fits || !last_fits {
+            return refused(13, i);
+        }
+        error += u64::from(layer);
+    }
+    Ok(error)
 }
 
 #[no_mangle]
@@ -308,6 +484,10 @@ unsafe extern "C" fn shagorent_picture(
     if let Ok(picture) = &mut answer {
         let tie = picture.share * 2 == thickness;
         picture.filled |= tie && is("picture: a tie is filled");
+    }
+    let nothing_on_it = i64::from(start) + i64::from(thickness) <= 0 || i64::from(start) >= i64::from(height);
+    if answer.is_ok() && nothing_on_it && is("picture: a layer wholly under or over the plate is 13") {
+        answer = Err(Refusal { number: 13, place: 0 });
     }
     as_pictured(answer)
 }
@@ -345,6 +525,12 @@ unsafe extern "C" fn shagorent_read_job(
     }
     if refused == 0 && is("read job: the remarks begin one kind later") && input[2..4] == [0, 128] {
         answer = Err(Refusal { number: 16, place: 0 });
+    }
+    if is("read job: 17 by document 01's M") {
+        if let Ok(plate) = answer.and_then(|loaded| loaded.head.plate()) {
+            let entries = (plate.height + 2 * plate.tmax - 1) * (counts_before(plate) + 1);
+            answer = if entries as usize > most { Err(Refusal { number: 17, place: 0 }) } else { answer };
+        }
     }
     let mut loaded = as_loaded(answer);
     if is("read job: the set and the column count are swapped") {
@@ -490,5 +676,7 @@ extern "C" fn shagorent_entries(height: u32, set: u32) -> Reply {
 
 #[no_mangle]
 extern "C" fn shagorent_counts(height: u32, set: u32) -> Reply {
-    as_reply(plain::counts(height, set))
+    let less = u64::from(height > 1 && is("sizes: M has one count less where N is above 1"));
+    let more = u64::from(height == 1 && is("sizes: M is 2 for N = 1"));
+    as_reply(plain::counts(height, set).map(|counts| counts - less + more))
 }

@@ -1,7 +1,9 @@
 // The plain implementation against the listing of every sequence, on many small random plates and bounds: the table, both sheets, the
-// list, every sequence read back, recounts of good and bad sequences, pictures, tables joined and taken off, and job files, read and saved.
+// list, every sequence read back, sheets that hold anything, recounts of good and bad sequences, pictures, tables joined and taken off, and job
+// files, read and saved.
 
 use bench::brute;
+use bench::make;
 use bench::plain::*;
 use bench::random::Random;
 
@@ -74,7 +76,10 @@ fn compare_plan(case: u64, sample: &Sample) {
     assert_eq!(answer, Ok(plate.counts() as u64));
 
     let chosen = brute::choose(&sample.listed, &sample.listed.every_sequence());
-    assert!(chosen.whole.keys().all(|&count| count <= plate.counts()), "case {case}");
+    assert!(chosen.ending.keys().all(|&(_, count)| count <= plate.counts()), "case {case}");
+    if sample.listed.bound == u32::MAX {
+        assert!(chosen.whole.contains_key(&plate.counts()), "case {case}: M itself can be built");
+    }
     for z in plate.lowest()..=plate.highest() {
         for count in 1..=plate.counts() {
             let held = chosen.ending.get(&(z, count));
@@ -132,10 +137,48 @@ fn compare_recount(case: u64, sample: &Sample, boundaries: &[i64]) {
     let sequence: Vec<i32> = boundaries.iter().map(|&z| z as i32).collect();
     let answer = recount(&sample.table, sample.head, sample.listed.bound, &sequence);
     let layer = |pair: &[i64]| u64::from(brute::layer_error(&sample.listed.columns, pair[0], pair[1] - pair[0]));
-    if sample.listed.is_admissible(boundaries) {
-        assert_eq!(answer, Ok(boundaries.windows(2).map(layer).sum()), "case {case}, {boundaries:?}");
-    } else {
-        assert_eq!(answer.err().map(|r| r.number), Some(13), "case {case}, {boundaries:?}");
+    let expected = match sample.listed.first_fault(boundaries) {
+        None => Ok(boundaries.windows(2).map(layer).sum()),
+        Some(index) => Err(Refusal { number: 13, place: index as u64 }),
+    };
+    assert_eq!(answer, expected, "case {case}, {boundaries:?}");
+    assert_eq!(answer.is_ok(), sample.listed.is_admissible(boundaries), "case {case}, {boundaries:?}");
+}
+
+/// Sheets that hold anything: what is read back is admissible, the bound aside, and else the fault met first on the way down decides.
+#[test]
+fn any_sheets_agree() {
+    for case in 0..PLATES {
+        let (mut sample, mut random) = sample(case);
+        sample.listed.bound = u32::MAX;
+        let Head { height, set, .. } = sample.head;
+        let plate = Plate::new(height, set).unwrap();
+        let mut sheets = make::sheets(plate, &make::Table { cells: sample.table.clone(), head: sample.head }, u32::MAX);
+        make::damage_sheets(&mut random, plate, &mut sheets);
+        for count in 1..=plate.counts() {
+            compare_followed(case, &sample, plate, &sheets, count);
+        }
+    }
+}
+
+fn compare_followed(case: u64, sample: &Sample, plate: Plate, sheets: &make::Sheets, count: usize) {
+    let Head { height, set, .. } = sample.head;
+    let entries = (plate.height..=plate.highest()).map(|z| (sheets.errors[plate.entry(z, count)], z));
+    let (least, end) = entries.min().unwrap();
+    let mut named = sample.listed.named(end, count, |z, layer| i64::from(sheets.thicknesses[plate.entry(z, layer)]));
+    let expected = match sample.listed.fault_met(&named, count) {
+        _ if least == NONE => Err(Refusal { number: 11, place: 0 }),
+        Some(layer) => Err(Refusal { number: 12, place: layer as u64 }),
+        None => Ok(least),
+    };
+    let mut out = vec![0; count + 1];
+    let filled = Filled { errors: &sheets.errors, thicknesses: &sheets.thicknesses };
+    let answer = read_back(height, set, filled, count as u32, &mut out);
+    assert_eq!(answer, expected, "case {case}, {count}");
+    if answer.is_ok() {
+        named.reverse();
+        assert!(out.iter().map(|&z| i64::from(z)).eq(named.iter().copied()), "case {case}, {count}");
+        assert!(sample.listed.is_admissible(&named), "case {case}, {count}");
     }
 }
 

@@ -1,7 +1,7 @@
 // The quick Rust that is timed beside the library gives the plain implementation's answers and cells, on good and damaged input.
 
 use bench::make;
-use bench::plain::{self, Columns, Filled, Head, Sheets};
+use bench::plain::{self, Columns, Filled, Head, Plate, Sheets};
 use bench::quick::{self, Reach, Rising};
 use bench::random::Random;
 
@@ -34,13 +34,21 @@ fn planners_agree() {
         for reach in [Reach::Every, Reach::UpToGreatest, Reach::PossibleOnly] {
             assert!(run(Some(reach)) == expected, "case {case}, {reach:?}, {:?}", expected.0);
         }
-        let filled = Filled { errors: &expected.1, thicknesses: &expected.2 };
-        compare_reading(case, &mut random, plate, filled);
+        let (answer, errors, thicknesses, list) = expected;
+        let mut sheets = make::Sheets { errors, thicknesses, list };
+        compare_reading(case, &mut random, plate, &sheets);
+        if answer.is_ok() {
+            sheets.errors.truncate(plate.entries());
+            sheets.thicknesses.truncate(plate.entries());
+            make::damage_sheets(&mut random, plate, &mut sheets);
+            compare_reading(case, &mut random, plate, &sheets);
+        }
     }
 }
 
-fn compare_reading(case: u64, random: &mut Random, plate: plain::Plate, filled: Filled) {
+fn compare_reading(case: u64, random: &mut Random, plate: Plate, sheets: &make::Sheets) {
     let (height, set) = (plate.height as u32, plate.set);
+    let filled = Filled { errors: &sheets.errors, thicknesses: &sheets.thicknesses };
     for _ in 0..5 {
         let count = make::count(random, plate);
         let mut out = vec![5; make::length(random, plate.counts() + 1)];

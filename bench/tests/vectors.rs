@@ -1,6 +1,11 @@
-// Document 01's own cases by the plain implementation: the worked plate, P1 to P13, and the limits on both sides.
+// Document 01's own cases by the plain implementation, with 02's b): the worked plate, P1 to P13, and the limits on both sides. Then the outside
+// vectors of b), by the quick one too where it has the call.
 
 use bench::plain::*;
+use bench::quick::{self, Reach};
+use std::fmt::Debug;
+use std::fs;
+use std::str::FromStr;
 
 const ANY: u32 = u32::MAX;
 
@@ -44,11 +49,65 @@ const B: &[u16] = &[0, 3];
 
 #[test]
 fn worked_plate() {
-    assert_eq!((cells(4, 6), entries(4, 6), counts(4, 6)), (Ok(24), Ok(45), Ok(4)));
+    assert_eq!((cells(4, 6), entries(4, 6), counts(4, 6)), (Ok(24), Ok(36), Ok(3)));
     assert_eq!(chosen(4, 6, &[A, B], ANY, 1), refused(11, 0));
     assert_eq!(chosen(4, 6, &[A, B], ANY, 2), Ok((2, vec![0, 2, 4])));
-    assert_eq!(chosen(4, 6, &[A, B], ANY, 3), Ok((2, vec![-2, 0, 2, 4])));
-    assert_eq!(chosen(4, 6, &[A, B], ANY, 4), Ok((2, vec![-2, 0, 2, 4, 6])));
+    assert_eq!(chosen(4, 6, &[A, B], ANY, 3), Ok((2, vec![-1, 1, 3, 5])));
+}
+
+/// Layers with nothing on them, as the plate in document 01 had them before.
+#[test]
+fn layers_with_nothing_on_them() {
+    let table = table_of(4, 6, &[A, B]);
+    let recounted = |sequence: &[i32]| recount(&table, head_of(4, 6, 2), ANY, sequence);
+    assert_eq!(recounted(&[-1, 1, 3, 5]), Ok(2));
+    assert_eq!(recounted(&[-2, 0, 2, 4]), refused(13, 1));
+    assert_eq!(recounted(&[0, 2, 4, 6]), refused(13, 3));
+    assert_eq!(recounted(&[-2, 0, 2, 4, 6]), refused(13, 1));
+    assert_eq!(recounted(&[-2, 0, 1]), refused(13, 1));
+    assert_eq!(recounted(&[0, 2, 4, 5]), refused(13, 3));
+}
+
+/// The last boundary but one is judged at n, also where a layer before n starts at N or above.
+#[test]
+fn the_upper_rule_is_told_at_the_last_layer() {
+    let table = table_of(4, 18, &[A]);
+    let recounted = |sequence: &[i32]| recount(&table, head_of(4, 18, 1), ANY, sequence);
+    assert_eq!(recounted(&[0, 2, 4, 6, 8]), refused(13, 4));
+    assert_eq!(recounted(&[0, 2, 4, 6, 7]), refused(13, 4));
+    assert_eq!(recounted(&[0, 2, 4, 6, 7, 8]), refused(13, 4));
+    assert_eq!(recounted(&[-2, 0, 2, 4, 6, 8]), refused(13, 1));
+    assert_eq!(recounted(&[-1, 1, 3, 8]), Ok(1));
+}
+
+/// Sheets of a plate of height 4 that name one thickness for every layer, and the lowest end.
+fn straight(set: u32, end: i64, thickness: u8) -> (Vec<u64>, Vec<u8>) {
+    let plate = Plate::new(4, set).unwrap();
+    let mut errors = vec![9; plate.entries()];
+    errors[plate.entry(end, 0)..plate.entry(end + 1, 0)].fill(5);
+    (errors, vec![thickness; plate.entries()])
+}
+
+/// The first fault met on the way down decides; one of the two rules is met at layer n or 1 alone.
+#[test]
+fn sheets_with_nothing_on_a_layer() {
+    let read = |set, end, thickness, count: u32| {
+        let (errors, thicknesses) = straight(set, end, thickness);
+        let sheets = Filled { errors: &errors, thicknesses: &thicknesses };
+        let mut out = vec![7; count as usize + 1];
+        read_back(4, set, sheets, count, &mut out).map(|error| (error, out))
+    };
+    assert_eq!(read(19, 4, 1, 4), Ok((5, vec![0, 1, 2, 3, 4])));
+    assert_eq!(read(19, 4, 1, 3), refused(12, 0));
+    assert_eq!(read(19, 5, 1, 4), refused(12, 4));
+    assert_eq!(read(19, 8, 1, 1), refused(12, 1));
+    assert_eq!(read(19, 4, 2, 3), refused(12, 1));
+    assert_eq!(read(19, 4, 2, 4), refused(12, 1));
+    assert_eq!(read(19, 5, 2, 4), refused(12, 1));
+    assert_eq!(read(19, 6, 2, 4), refused(12, 4));
+    assert_eq!(read(19, 4, 5, 2), refused(12, 1));
+    assert_eq!(read(19, 4, 5, 3), refused(12, 2));
+    assert_eq!(read(19, 4, 3, 4), refused(12, 4));
 }
 
 #[test]
@@ -73,7 +132,10 @@ fn marked_p() {
 fn limits_on_both_sides() {
     let counts_of = |height| counts(height, 1);
     assert_eq!((counts_of(0), counts_of(1)), (refused(1, 0), Ok(1)));
+    assert_eq!((counts_of(2), counts(2, 1 << 31)), (Ok(2), Ok(2)));
     assert_eq!((counts_of(512), counts_of(513)), (Ok(512), refused(1, 0)));
+    assert_eq!((counts(1, ANY), counts(512, ANY)), (Ok(1), Ok(512)));
+    assert_eq!(entries(512, ANY), Ok(294_975));
     assert_eq!(counts(0, 0), refused(1, 0));
     assert_eq!(counts(1, 0), refused(2, 0));
     let picture_of = |column: &[u16]| picture(100, 4, column, 0, 3).err();
@@ -84,7 +146,8 @@ fn limits_on_both_sides() {
     assert_eq!(picture_of(&[99, 100]), None);
     assert_eq!(picture_of(&[99, 101]), Some(Refusal { number: 5, place: 1 }));
     assert_eq!(chosen(4, 6, &[A], ANY, 0), refused(10, 0));
-    assert_eq!(chosen(4, 6, &[A], ANY, 5), refused(10, 0));
+    assert_eq!(chosen(4, 6, &[A], ANY, 3), Ok((1, vec![-1, 1, 3, 5])));
+    assert_eq!(chosen(4, 6, &[A], ANY, 4), refused(10, 0));
     assert_eq!(motor_height(8192, 543), Ok(556_032.0));
     assert_eq!(motor_height(8193, 543), refused(14, 0));
     assert_eq!(motor_height(0, 600), refused(14, 0));
@@ -117,15 +180,15 @@ fn worked_file() {
     let file = &FILE[..38];
     let mut table = vec![9; 26];
     let loaded = Loaded { head: head_of(4, 6, 2), bound: ANY };
-    assert_eq!(read_job(file, 45, &mut table), Ok(loaded));
+    assert_eq!(read_job(file, 36, &mut table), Ok(loaded));
     assert_eq!(table[..24], table_of(4, 6, &[A, B]));
     assert_eq!(table[24..], [9, 9]);
-    assert_eq!(read_job(file, 44, &mut table), refused(17, 0));
-    assert_eq!(read_job(file, 45, &mut table[..23]), refused(3, 1));
-    assert_eq!(read_job(&FILE, 45, &mut table), refused(16, 38));
-    assert_eq!(read_job(&file[..30], 45, &mut table), refused(16, 30));
-    assert_eq!(read_job(&file[..29], 45, &mut table), refused(16, 22));
-    assert_eq!(read_job(&[], 45, &mut table), refused(16, 0));
+    assert_eq!(read_job(file, 35, &mut table), refused(17, 0));
+    assert_eq!(read_job(file, 36, &mut table[..23]), refused(3, 1));
+    assert_eq!(read_job(&FILE, 36, &mut table), refused(16, 38));
+    assert_eq!(read_job(&file[..30], 36, &mut table), refused(16, 30));
+    assert_eq!(read_job(&file[..29], 36, &mut table), refused(16, 22));
+    assert_eq!(read_job(&[], 36, &mut table), refused(16, 0));
 }
 
 #[test]
@@ -147,4 +210,103 @@ fn worked_file_saved() {
     assert_eq!(job_size(&[64; 1_000_000]), Ok(132_000_022));
     assert_eq!(job_size(&[66]), refused(4, 0));
     assert_eq!(job_size(&[65; 1_000_001]), refused(7, 0));
+}
+
+// ---- The outside vectors of document 02, b) ----
+
+/// The cases of tools/vectors/b/NAME.txt, each by its fields.
+fn outside(name: &str) -> Vec<Vec<String>> {
+    let file = format!("{}/../tools/vectors/b/{name}.txt", env!("CARGO_MANIFEST_DIR"));
+    let text = fs::read_to_string(file).unwrap_or_else(|fault| panic!("tools/vectors/b/{name}.txt: {fault}"));
+    text.lines().map(|line| line.split('|').map(String::from).collect()).collect()
+}
+
+fn list<T: FromStr<Err: Debug>>(field: &str) -> Vec<T> {
+    field.split_whitespace().map(|number| number.parse().expect("it is a number")).collect()
+}
+
+fn one<T: FromStr<Err: Debug>>(field: &str) -> T {
+    field.parse().expect("it is a number")
+}
+
+/// What is answered, by the two fields that every answer begins with.
+fn answered(number: &str, value: &str) -> Answer<u64> {
+    match one(number) {
+        0 => Ok(one(value)),
+        number => refused(number, one(value)),
+    }
+}
+
+/// What a lent output holds in the end: where the call is done the list, and then what it held.
+fn left<T: Copy>(before: &[T], done: &[T]) -> Vec<T> {
+    [done, &before[done.len()..]].concat()
+}
+
+#[test]
+fn outside_counts() {
+    let cases = outside("counts");
+    assert_eq!(cases.len(), 83);
+    for (case, fields) in cases.iter().enumerate() {
+        let [height, set] = [0, 1].map(|i| one(&fields[i]));
+        let expected = answered(&fields[2], &fields[3]);
+        assert_eq!(counts(height, set), expected, "case {case}");
+        assert_eq!(entries(height, set), expected.map(|_| one(&fields[4])), "case {case}");
+    }
+}
+
+#[test]
+fn outside_recounts() {
+    let cases = outside("recount");
+    assert_eq!(cases.len(), 204);
+    for (case, fields) in cases.iter().enumerate() {
+        let [height, set, columns, bound] = [0, 1, 3, 4].map(|i| one(&fields[i]));
+        let head = Head { height, set, columns };
+        let answer = recount(&list::<u32>(&fields[2]), head, bound, &list::<i32>(&fields[5]));
+        assert_eq!(answer, answered(&fields[6], &fields[7]), "case {case}");
+    }
+}
+
+#[test]
+fn outside_readbacks() {
+    let cases = outside("readback");
+    assert_eq!(cases.len(), 188);
+    for (case, fields) in cases.iter().enumerate() {
+        let [height, set, count, room] = [0, 1, 4, 5].map(|i| one(&fields[i]));
+        let (errors, thicknesses) = (list::<u64>(&fields[2]), list::<u8>(&fields[3]));
+        let sheets = Filled { errors: &errors, thicknesses: &thicknesses };
+        let before = vec![77; room as usize];
+        let expected = (answered(&fields[6], &fields[7]), left(&before, &list(&fields[8])));
+        for read in [read_back, quick::read_back] {
+            let mut out = before.clone();
+            let answer = read(height, set, sheets, count, &mut out);
+            assert_eq!((answer, out), expected, "case {case}");
+        }
+    }
+}
+
+#[test]
+fn outside_plans() {
+    let cases = outside("plan");
+    assert_eq!(cases.len(), 69);
+    for (case, fields) in cases.iter().enumerate() {
+        let [height, set, columns, bound] = [0, 1, 3, 4].map(|i| one(&fields[i]));
+        let (cells, head) = (list::<u32>(&fields[2]), Head { height, set, columns });
+        let [errors, thicknesses, found] = [5, 6, 7].map(|i| one(&fields[i]));
+        let before = (vec![7; errors], vec![7; thicknesses], vec![7; found]);
+        let expected = (
+            answered(&fields[8], &fields[9]),
+            left(&before.0, &list(&fields[10])),
+            left(&before.1, &list(&fields[11])),
+            left(&before.2, &list(&fields[12])),
+        );
+        for reach in [None, Some(Reach::Every), Some(Reach::UpToGreatest), Some(Reach::PossibleOnly)] {
+            let (mut errors, mut thicknesses, mut list) = before.clone();
+            let sheets = Sheets { errors: &mut errors, thicknesses: &mut thicknesses, list: &mut list };
+            let answer = match reach {
+                None => plan(&cells, head, bound, sheets),
+                Some(reach) => quick::plan(reach, &cells, head, bound, sheets),
+            };
+            assert_eq!((answer, errors, thicknesses, list), expected, "case {case}, {reach:?}");
+        }
+    }
 }

@@ -1,7 +1,7 @@
-// Cases that are run every time: the limits that document 01 wants run on both sides, every motor height, and files of 1,000,000 columns, read
-// and written.
+// Cases that are run every time: the limits that document 01 wants run on both sides, every sequence of small plates and walks down their
+// sheets, every motor height, and files of 1,000,000 columns, read and written.
 
-use crate::cases::{added, lifted, loaded, pictured, planned, read, sized, sizes_of, written};
+use crate::cases::{added, lifted, loaded, pictured, planned, read, recounted, sized, sizes_of, written};
 use crate::cases::{LentSheets, Outcome, Saved};
 use crate::lent::Lent;
 use bench::make::{self, Run};
@@ -26,6 +26,8 @@ pub fn edges(random: &mut Random) -> Result<u64, String> {
     }
     columns(random, &mut note)?;
     counts(random, &mut note)?;
+    sequences(random, &mut note)?;
+    walks(random, &mut note)?;
     files(random, &mut note)?;
     saved_counts(random, &mut note)?;
     saved_boundaries(random, &mut note)?;
@@ -57,9 +59,11 @@ fn columns(random: &mut Random, note: &mut impl FnMut(Outcome) -> Result<(), Str
     Ok(())
 }
 
-/// Heights 1 and 512 planned, and every count from 0 to M+1 read back.
+/// Heights 1, 2 and 512 planned, and every count from 0 to M+1 read back.
 fn counts(random: &mut Random, note: &mut impl FnMut(Outcome) -> Result<(), String>) -> Result<(), String> {
-    for (height, set) in [(1, 1), (1, 1 << 31), (1, u32::MAX), (512, 1), (512, 1 << 31), (512, u32::MAX), (4, 6)] {
+    let sets = [1, 1 << 31, u32::MAX];
+    let limits = [1, 2, 512].into_iter().flat_map(|height| sets.map(|set| (height, set)));
+    for (height, set) in limits.chain([(4, 6)]) {
         let plate = Plate::new(height, set).expect("allowed");
         let columns = make::columns(random, plate, 5);
         let table = make::tabulate(plate, &columns);
@@ -77,6 +81,57 @@ fn counts(random: &mut Random, note: &mut impl FnMut(Outcome) -> Result<(), Stri
     Ok(())
 }
 
+/// Small plates, document 01's and the one of a height of 1 among them; T {2, 5} leaves heights that no layer ends at.
+const SMALL: [(u32, u32); 7] = [(1, 1), (1, 7), (2, 3), (3, 6), (4, 6), (4, 18), (5, 11)];
+
+/// Every sequence that starts as it may and rises by allowed thicknesses, one step past N+tmax−1 at most: with z1 and the last boundary but one
+/// on both sides of their limits, and with several faults at once where a bound is in effect.
+fn sequences(random: &mut Random, note: &mut impl FnMut(Outcome) -> Result<(), String>) -> Result<(), String> {
+    for (height, set) in SMALL {
+        let plate = Plate::new(height, set).expect("allowed");
+        let columns = make::columns(random, plate, 3);
+        let table = make::tabulate(plate, &columns);
+        let cells = Lent::given(random, &table.cells);
+        let mut every: Vec<Vec<i32>> = (plate.lowest()..=0).map(|z0| vec![z0 as i32]).collect();
+        while let Some(sequence) = every.pop() {
+            let lent = Lent::given(random, &sequence);
+            for bound in [u32::MAX, 1, 0] {
+                note(recounted(&cells, table.head, bound, &lent))?;
+            }
+            let end = sequence[sequence.len() - 1];
+            if i64::from(end) <= plate.highest() {
+                every.extend(plate.thicknesses().map(|t| [&sequence[..], &[end + t as i32]].concat()));
+            }
+        }
+    }
+    Ok(())
+}
+
+/// Every count read back from each end by sheets that name one thickness for all layers from a height up, and another below it.
+fn walks(random: &mut Random, note: &mut impl FnMut(Outcome) -> Result<(), String>) -> Result<(), String> {
+    for (height, set) in SMALL {
+        let plate = Plate::new(height, set).expect("allowed");
+        let members: Vec<u8> = plate.thicknesses().map(|t| t as u8).chain([0]).collect();
+        let pairs = members.iter().flat_map(|&upper| members.iter().map(move |&lower| (upper, lower)));
+        let changes = pairs.flat_map(|pair| (plate.lowest()..=plate.height).map(move |at| (pair, at)));
+        for ((upper, lower), at) in changes {
+            for end in plate.height..=plate.highest() {
+                let mut sheets = LentSheets::random(random, [plate.entries(), plate.entries(), 0]);
+                for z in plate.lowest()..=plate.highest() {
+                    let row = plate.entry(z, 0)..plate.entry(z + 1, 0);
+                    sheets.errors.part_mut()[row.clone()].fill(if z == end { 3 } else { 4 });
+                    sheets.thicknesses.part_mut()[row].fill(if z >= at { upper } else { lower });
+                }
+                for count in 1..=plate.counts() {
+                    let out = Lent::random(random, count + 1);
+                    note(read(&sheets.clone(), &sheets, &out, height, set, count as u32))?;
+                }
+            }
+        }
+    }
+    Ok(())
+}
+
 /// The worked plate cut off at every byte, and files of 1,000,000 columns and of one more.
 fn files(random: &mut Random, note: &mut impl FnMut(Outcome) -> Result<(), String>) -> Result<(), String> {
     let mut plate = Vec::new();
@@ -85,7 +140,7 @@ fn files(random: &mut Random, note: &mut impl FnMut(Outcome) -> Result<(), Strin
     make::column_record(&mut plate, &[0, 3]);
     make::end_record(&mut plate, 2);
     let table = Lent::random(random, 30);
-    for most in [0, 23, 24, 44, 45, 46, usize::MAX] {
+    for most in [0, 23, 24, 35, 36, 37, 44, 45, usize::MAX] {
         for length in 0..=plate.len() {
             let file = Lent::given(random, &plate[..length]);
             note(loaded(&file, most, &table))?;
