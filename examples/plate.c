@@ -5,7 +5,7 @@
 #include <stdio.h>
 #include <string.h>
 
-enum { HEIGHT = 4, SET = 6, CELLS = 24, ENTRIES = 45, COUNTS = 4, COLUMNS = 2 };
+enum { HEIGHT = 4, SET = 6, CELLS = 24, ENTRIES = 36, COUNTS = 3, COLUMNS = 2 };
 
 /* The columns as one run of boundaries, and a count for each column. */
 static const uint16_t boundaries[] = {1, 4, 0, 3}, counts[COLUMNS] = {2, 2};

@@ -7,7 +7,7 @@ import ctypes as c
 import pathlib
 import sys
 
-VERSION = 40100
+VERSION = 40200
 """Of the header that these declarations follow."""
 COLUMNS = (1, 4), (0, 3)
 

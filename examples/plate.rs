@@ -45,14 +45,14 @@ extern "C" {
 }
 
 // The version of the header that these declarations follow.
-const VERSION: u32 = 40100;
+const VERSION: u32 = 40200;
 const NO_SEQUENCE: u32 = 11;
 const COLUMNS: [[u16; 2]; 2] = [[1, 4], [0, 3]];
 
 fn main() {
     assert_eq!(unsafe { shagorent_version() }, VERSION);
-    let (mut table, mut errors, mut thicknesses) = ([0u32; 24], [0u64; 45], [0u8; 45]);
-    let (mut list, mut sequence) = ([0u64; 4], [0i32; 5]);
+    let (mut table, mut errors, mut thicknesses) = ([0u32; 24], [0u64; 36], [0u8; 36]);
+    let (mut list, mut sequence) = ([0u64; 3], [0i32; 4]);
     let mut made = unsafe { shagorent_clear_table(table.as_mut_ptr(), table.len(), 4, 6) };
     for column in COLUMNS {
         assert_eq!((made.number, made.place), (0, 0));

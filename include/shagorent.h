@@ -30,7 +30,7 @@ extern "C" {
  * minor version has more functions, or a rule that moved, as its changelog tells. `shagorent_version` answers the library's own, in the form of
  * SHAGORENT_VERSION: ask once that the two agree. */
 #define SHAGORENT_VERSION_MAJOR 4u
-#define SHAGORENT_VERSION_MINOR 1u
+#define SHAGORENT_VERSION_MINOR 2u
 #define SHAGORENT_VERSION_PATCH 0u
 #define SHAGORENT_VERSION (SHAGORENT_VERSION_MAJOR * 10000u + SHAGORENT_VERSION_MINOR * 100u + SHAGORENT_VERSION_PATCH)
 
@@ -41,8 +41,8 @@ extern "C" {
 #define SHAGORENT_MOST_BOUNDARIES 64u     /* of a column */
 #define SHAGORENT_MOST_COLUMNS 1000000u   /* of a table */
 #define SHAGORENT_MOST_CELLS 18368u       /* of any table */
-#define SHAGORENT_MOST_ENTRIES 330625u    /* of any sheet */
-#define SHAGORENT_MOST_COUNTS 574u        /* of any plan */
+#define SHAGORENT_MOST_ENTRIES 294975u    /* of any sheet */
+#define SHAGORENT_MOST_COUNTS 512u        /* of any plan */
 #define SHAGORENT_LEAST_STEP 1u           /* of a motor, in eighths of a micrometre */
 #define SHAGORENT_GREATEST_STEP 8192u
 #define SHAGORENT_LOWEST_BOUNDARY (-31)   /* that a motor can be sent to */
@@ -64,7 +64,7 @@ extern "C" {
 #define SHAGORENT_COUNT 10u          /* count 0 or above the greatest; 0 */
 #define SHAGORENT_NO_SEQUENCE 11u    /* no admissible sequence of that count; 0 */
 #define SHAGORENT_UNREADABLE 12u     /* sheets that do not read back; the layer, or 0 */
-#define SHAGORENT_NOT_ADMISSIBLE 13u /* a sequence or a layer that is not admissible; the first such index */
+#define SHAGORENT_NOT_ADMISSIBLE 13u /* a sequence or a layer that is not admissible; the lowest index at fault */
 #define SHAGORENT_STEP 14u           /* step outside 1 to 8,192; 0 */
 #define SHAGORENT_MOTOR_BOUNDARY 15u /* boundary outside -31 to 543; 0 */
 #define SHAGORENT_MALFORMED 16u      /* a malformed job file; the first byte of the record at fault, or of what stands after the end */
@@ -122,7 +122,7 @@ shagorent_reply shagorent_cells(uint32_t height, uint32_t set);
 /* Entries of each sheet: (N + 2*tmax - 1) * (M + 1). */
 shagorent_reply shagorent_entries(uint32_t height, uint32_t set);
 
-/* The greatest count, M = (N + 2*tmax - 2) / tmin: the length of a list; a sequence of n layers has n + 1 boundaries. */
+/* The greatest count, M: 1 for N = 1, otherwise (N - 2) / tmin + 2. It is the length of a list; a sequence of n layers has n + 1 boundaries. */
 shagorent_reply shagorent_counts(uint32_t height, uint32_t set);
 
 /* ---- Tables. A table has a cell for each start z from -(tmax-1) to N+tmax-2 and each thickness from 1 to tmax: the layer's error. Starts are
@@ -147,10 +147,11 @@ shagorent_table_reply shagorent_take_off(uint32_t *table, size_t table_length, s
                                          size_t other_length, shagorent_head other_head);
 
 /* ---- Plans. A sequence of n layers is its n + 1 boundaries z0 < z1 < .. < zn. It is admissible if z0 is from -(tmax-1) to 0, zn is at least N
- * and below N + tmax, every difference is an allowed thickness and every layer's error is at most the bound. A sheet has an entry for each
- * height from -(tmax-1) to N+tmax-1 and each count from 0 to M, heights outer and counts inner: the least error of so many layers that
- * end there, or SHAGORENT_NONE, and the thickness of the last of them, or 0. Of several with the least error the one is chosen that
- * ends lowest, then the one with the thinnest last layer, the thinnest before it, and so on down. */
+ * and below N + tmax, every difference is an allowed thickness, every layer's error is at most the bound, z1 is above 0 and z(n-1) is below N. By
+ * the last two every layer holds some of the plate's heights. A sheet has an entry for each height from -(tmax-1) to N+tmax-1 and each count
+ * from 0 to M, heights outer and counts inner: the least error of so many layers that end there, each of which holds some of the plate's
+ * heights, or SHAGORENT_NONE, and the thickness of the last of them, or 0. Of several with the least error the one is chosen that ends lowest,
+ * then the one with the thinnest last layer, the thinnest before it, and so on down. */
 
 /* Fills the error sheet, the thickness sheet and the list of the least errors of the counts 1 to M, for layers whose error is at most the
  * bound. Answers M. Refusals 1, 2, 3 (table, errors, thicknesses, list), 7, 6. */
@@ -158,13 +159,15 @@ shagorent_reply shagorent_plan(const uint32_t *table, size_t table_length, shago
                                size_t errors_length, uint8_t *thicknesses, size_t thicknesses_length, uint64_t *list, size_t list_length);
 
 /* Reads the sequence of `count` layers back from two sheets into `out`, its count + 1 boundaries from the lowest up. Answers its error.
- * Refusals 1, 2, 3 (errors, thicknesses), 10, 3 (out), 11, 12; over sheets that a plan of these settings left, 12 never occurs. */
+ * Refusals 1, 2, 3 (errors, thicknesses), 10, 3 (out), 11, 12; over sheets that a plan of these settings left, 12 never occurs. Its place is the
+ * first layer met, from the last down, whose thickness is not allowed or that starts below -(tmax-1); layer `count` also where it starts at N or
+ * above, layer 1 also where it ends at 0 or below; and 0 where the lowest boundary is above 0. */
 shagorent_reply shagorent_read_back(uint32_t height, uint32_t set, const uint64_t *errors, size_t errors_length, const uint8_t *thicknesses,
                                     size_t thicknesses_length, uint32_t count, int32_t *out, size_t out_length);
 
-/* The error of a given sequence over a table. Refusals 1, 2, 3, 7, 6, 13; the place of 13 is 0 for fewer than two boundaries or a start out of
- * range; then the first index from 1 whose difference from the boundary before is not allowed, which is above N+tmax-1, or whose layer is
- * over the bound; last, the index of an end below N. */
+/* The error of a given sequence over a table. Refusals 1, 2, 3, 7, 6, 13; the place of 13 is the lowest index at fault: 0 for fewer than two
+ * boundaries or a start out of range; from 1 on an index whose difference from the boundary before is not allowed, which is above N+tmax-1, or
+ * whose layer is over the bound; 1 also for a z1 of 0 or less; n also for a z(n-1) of N or more, and for a zn below N. */
 shagorent_reply shagorent_recount(const uint32_t *table, size_t table_length, shagorent_head head, uint32_t bound, const int32_t *sequence,
                                   size_t sequence_length);
 

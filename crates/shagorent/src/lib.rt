@@ -52,7 +52,7 @@ use table::clear_table;
 pub extern "C" fn shagorent_version() -> u32
     ensures { λ r. ⌜ r ≡ version ⌝ }
 {
-    40100
+    40200
 }
 
 // ---- tables, plans, pictures, motors and jobs
