@@ -3,31 +3,27 @@
 -- are the same. All of it is for at least one layer, which an admissible sequence has. Assumes nothing.
 use Prim.Native.Nat.{ℕ, zero, suc, _-_, _≤_}
 use mathlib.Core.Path.{_≡_, refl, sym, ap, ap₂, _∙_, subst}
-use mathlib.Core.Bool.{true}
 use mathlib.Core.Logic.{_↔_}
 use mathlib.Core.Option.{Option, none, some, Option·map, map-eq-none-iff, map-eq-some-iff}
 use mathlib.Core.List.{List, [], _∷_}
 use native.Mathlib.Omega.{arith}
 use native.Mathlib.Decide.{ℕ-discrete}
-use lib.Dec.{leb}
 use lib.ListN.{length}
 use lib.Seq.{ext-getD}
 use lib.IntN.{ℤ, pos, natAbs, _-ℤ_}
 use Rattle.paper.specs.Layer.{Plate, tmin}
 use Rattle.paper.specs.Sequence.{_!_, count, thickness, Stack, Admissible, errorUnder, error, M, Chosen, None}
 use Rattle.paper.specs.Sheets.{missing, Ending}
-use Rattle.paper.proofs.Thicknesses.{and-true, tmin-least}
+use Rattle.paper.proofs.Thicknesses.{tmin-least}
 use Rattle.paper.proofs.Counts.{counts-most}
 use Rattle.plate.specs.Datum.{datum, heightOf}
 use Rattle.plate.proofs.Datum.{lt-down, difference-height}
 use Rattle.sequence.specs.Sequence as working
 use Rattle.sequence.specs.Sequence.{upFrom}
-use Rattle.sequence.specs.Rules.{shape}
 use Rattle.sequence.specs.Least.{chosen}
 use Rattle.sequence.specs.Sheets.{mark}
 use Rattle.sequence.proofs.Choice.{chosen-is, chosen-none, chosen-exact, chosen-exists, chosen-least-of, least-of}
-use Rattle.sequence.proofs.Bounds.{Known, count-most}
-use Rattle.sequence.proofs.Layers.{shape-allowed, shape-above, shape-below}
+use Rattle.sequence.proofs.Bounds.{rules-known, count-most}
 use Rattle.meaning.specs.Working.{rulesOf, heightsOf, boundariesOf, found, foundError}
 use Rattle.meaning.proofs.Sequence.{layersUnder, length-under, ends-up, ends-down, Down, before-up, before-down}
 use Rattle.meaning.proofs.Stacks.{at-datum}
@@ -239,14 +235,4 @@ pub count-in-range : (p : Plate) (bound : ℕ) (zs : List ℤ) → Admissible p 
 count-in-range p bound zs a =
     let w = to-working p bound (count zs) (a .layered) zs a refl in
     let b = tmin-least (p .T) (thickness zs 0) (a .stack .layers 0 (a .layered) .member) in
-    rw (← w .1 .layers) (counts-most (p .N) (p .T) (working.count (w .0)) (b .0) (count-most (rulesOf p bound) (tmin (p .T)) known (w .0) (w .1 .works)))
-  where
-    in-shape : (h t : ℕ) → working.Layer (rulesOf p bound) h t → shape (p .N) (p .T) (h - t) t ≡ true
-    in-shape h t l = and-true (shape (p .N) (p .T) (h - t) t) (leb (p .layerError (heightOf (h - t)) t) bound) (l .allowed) .0
-
-    known : Known (rulesOf p bound) (tmin (p .T))
-    known = record {
-      thick = λ h t l. tmin-least (p .T) t (shape-allowed (p .N) (p .T) (h - t) t (in-shape h t l)) .1;
-      above = λ h t l. omega (arith, l .above, shape-above (p .N) (p .T) (h - t) t (in-shape h t l));
-      below = λ h t l. shape-below (p .N) (p .T) (h - t) t (in-shape h t l);
-    }
+    rw (← w .1 .layers) (counts-most (p .N) (p .T) (working.count (w .0)) (b .0) (count-most (rulesOf p bound) (tmin (p .T)) (rules-known (p .N) (p .T) bound _) (w .0) (w .1 .works)))

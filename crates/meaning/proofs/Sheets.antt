@@ -8,7 +8,7 @@ use mathlib.Core.Option.{Option, none, some}
 use mathlib.Core.List.{List, [], _∷_}
 use native.Mathlib.Omega.{arith}
 use lib.ListN.{length, getD, length-map}
-use lib.IntN.{ℤ, pos, natAbs, _-ℤ_}
+use lib.IntN.{ℤ, natAbs, _-ℤ_}
 use Rattle.paper.specs.Layer.{Plate, tmax}
 use Rattle.paper.specs.Sequence.{_!_, thickness, Stack, errorUnder, Thinner}
 use Rattle.paper.specs.Sheets.{missing, Ending, ChosenAt, lastOf, Entries}

@@ -12,7 +12,7 @@ use Rattle.paper.specs.Limits.{leastHeight, greatestHeight}
 use Rattle.paper.specs.Layer.{tmin, tmax}
 use Rattle.paper.specs.Table.{rows}
 use Rattle.paper.specs.Sequence.{M}
-use Rattle.paper.proofs.Thicknesses.{tmax-le, tmax-member, tmin-least}
+use Rattle.paper.proofs.Thicknesses.{tmax-member, tmin-least}
 
 -- the two cases of the formula
 pub counts-one : (N T : ℕ) → N ≡ 1 → M N T ≡ 1

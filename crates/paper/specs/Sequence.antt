@@ -1,6 +1,6 @@
 -- Document 01, 'Sequence' and 'Which of several', with document 02 b), 'Layers with nothing on them'. A sequence is the list of its boundaries
 -- z0, z1, .. zn. Nothing here says how one is found. Assumes nothing.
-use Prim.Native.Nat.{ℕ, zero, suc, _+_, _-_, _*_, _/_, _≤_, _<_}
+use Prim.Native.Nat.{ℕ, zero, suc, _+_, _-_, _/_, _≤_, _<_}
 use mathlib.Core.Path.{_≡_}
 use mathlib.Core.Logic.{_⊎_}
 use mathlib.Core.Bool.{true, cond}

@@ -15,7 +15,7 @@ use Rattle.plate.specs.declared.settings.Settings.{Settings}
 use Rattle.sequence.specs.Sequence.{Rules, lowestEnd}
 use Rattle.sequence.specs.Least.{via, least}
 use Rattle.sequence.specs.Rules.{shape}
-use Rattle.sequence.proofs.Bounds.{Known, least-bound}
+use Rattle.sequence.proofs.Bounds.{Known, rules-known, least-bound}
 use Rattle.sequence.proofs.Layers.{shape-allowed, shape-above, shape-below, shape-from, shape-to}
 use Rattle.sequence.proofs.Least.{via-some}
 use Rattle.sequence.proofs.Marks.{Small}
@@ -57,11 +57,7 @@ module _ (s : Settings) (bound : ℕ) (table : List ℕ) (ready : Ready s table)
   -- what is known of every permitted layer
   pub known : Known p (s .tmin)
   unfolding planRules
-  known = record {
-    thick = λ h t l. may-thick (h - t) t (l .allowed);
-    above = λ h t l. omega (arith, l .above, shape-above _ _ (h - t) t (shape-of (h - t) t (l .allowed)));
-    below = λ h t l. may-below (h - t) t (l .allowed);
-  }
+  known = rw (ready .sound .least) (rules-known (s .height) (s .members) bound (cellFrom (s .members) table))
 
   -- no layer ends at 0 or less
   pub via-empty : (m h t : ℕ) → h ≤ 32 → via p (λ g. least p m g) h t ≡ none

@@ -16,7 +16,7 @@ use lib.Signed.{_≤ℤ_, _<ℤ_, ltZ-yes, <ℤ-≤ℤ-trans, clashℤ}
 use lib.Dec.{leb→le, lt→ltb}
 use Rattle.paper.specs.Layer.{Plate, Settings, allowed, tmin, tmax}
 use Rattle.paper.specs.Sequence.{_!_, count, Admissible, M}
-use Rattle.paper.specs.Sheets.{heights, entries, missing, Ending, ChosenAt, Entries}
+use Rattle.paper.specs.Sheets.{heights, entries, missing, Ending, Entries}
 use Rattle.paper.proofs.Counts.{counts-one, counts-more, counts-some, counts-before}
 use Rattle.paper.proofs.Stacks.{something-on-each}
 use Rattle.paper.proofs.Thicknesses.{tmin-member, tmin-least, allowed-to, allowed-tmax}

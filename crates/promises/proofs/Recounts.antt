@@ -3,7 +3,7 @@
 -- the datum, and the tests that passed are what an admissible sequence is asked for. Up to the first fault the tests are the documents' words, so the
 -- first of them that fails is at the lowest index at fault, and there is only one such. Assumes nothing.
 use mathlib.Core.Path.{_≡_, refl, sym, ap, ap₂, _∙_, subst}
-use mathlib.Core.Logic.{_⊎_, inl, inr, _↔_}
+use mathlib.Core.Logic.{_⊎_, inl, inr}
 use mathlib.Core.Bool.{Bool, true, false, not, _||_}
 use mathlib.Core.List.{List, [], _∷_}
 use mathlib.Core.Option.{none}
@@ -18,11 +18,11 @@ use lib.ListN.{length}
 use lib.Signed.{_≤ℤ_, _<ℤ_}
 use Rattle.lists.specs.Search.{lowest}
 use Rattle.lists.proofs.Checks.{or-false}
-use Rattle.lists.proofs.Search.{lowest-le, lowest-none, lowest-before, lowest-passes}
+use Rattle.lists.proofs.Search.{lowest-none, lowest-before, lowest-passes}
 use Rattle.paper.specs.Layer as paper
 use Rattle.paper.specs.Layer.{Plate, allowed, tmax}
 use Rattle.paper.specs.Table.{cellAt, ofTable}
-use Rattle.paper.specs.Sequence.{_!_, count, IsLayer, Admissible, errorAt, error}
+use Rattle.paper.specs.Sequence.{_!_, count, IsLayer, Admissible, error}
 use Rattle.paper.proofs.Thicknesses.{and-true, allowed-from, tmax-le}
 use Rattle.plate.specs.Call.{answerOf}
 use Rattle.plate.specs.Datum.{datum, heightOf}
@@ -34,18 +34,15 @@ use Rattle.sequence.specs.Rules.{shape}
 use Rattle.sequence.specs.Sequence.{starts, lowestEnd}
 use Rattle.sequence.proofs.Layers.{shape-allowed, shape-below, shape-to}
 use Rattle.column.proofs.Fine.{settings-fine}
-use Rattle.table.specs.Cells.{cellFrom}
 use Rattle.table.specs.Table.{tableChecks, Bounded}
-use Rattle.table.proofs.Cells.{cell-is}
 use Rattle.table.proofs.Passed.{table-fine}
-use Rattle.recount.specs.Recount.{layerOut, lastOut, faultAt, firstFault, sequenceChecks, recounting}
+use Rattle.recount.specs.Recount.{layerOut, faultAt, firstFault, sequenceChecks, recounting}
 use Rattle.recount.proofs.Faults.{Faultless, fault-none, fault-parts, over, fault-words}
 use Rattle.recount.proofs.Layers.{in-bound}
 use Rattle.recount.proofs.Words.{rise, error-is, start-words}
-use Rattle.meaning.specs.Working.{rulesOf}
 use Rattle.meaning.proofs.Sequence.{starts-up}
-use Rattle.meaning.proofs.Stacks.{at-datum, start-at, rising-datum, thickness-datum, permitted-at}
-use Rattle.promises.specs.Plans.{plateOf, Refused}
+use Rattle.meaning.proofs.Stacks.{at-datum, start-at, rising-datum, permitted-at}
+use Rattle.promises.specs.Plans.{plateOf}
 use Rattle.promises.proofs.Plans.{cell-height}
 use Rattle.promises.specs.Recounts.{atFault, LowestFault, RecountsExactly}
 

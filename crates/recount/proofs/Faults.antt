@@ -1,6 +1,6 @@
 -- An index at fault, by what is at fault there; where nothing is, each test passed (`fault-parts`). Before the first fault boundaries rise from a start
 -- on, so they lie over the datum (`over`), and there the tests are the documents' own words (`fault-words`). Assumes nothing.
-use mathlib.Core.Path.{_≡_, refl, sym, ap, ap₂, _∙_}
+use mathlib.Core.Path.{_≡_, ap, ap₂}
 use mathlib.Core.Bool.{Bool, true, false, not, _&&_, _||_}
 use mathlib.Core.List.{List}
 use Prim.Native.Nat.{ℕ, zero, suc, _+_, _-_, _≤_, _<_}

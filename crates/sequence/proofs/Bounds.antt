@@ -3,14 +3,19 @@
 -- last layer starts below N, so there are only so many in all. Each by induction on the layers from the top down. Assumes nothing.
 use Prim.Native.Nat.{ℕ, suc, _+_, _-_, _*_, _≤_, _<_}
 use mathlib.Core.Path.{_≡_, refl, _∙_, ap, subst}
+use mathlib.Core.Bool.{true}
 use mathlib.Core.Logic.{_↔_}
 use mathlib.Core.Option.{Option, none, some}
 use mathlib.Core.List.{List, [], _∷_}
 use native.Mathlib.Omega.{arith}
+use lib.Dec.{leb}
 use lib.ListN.{length}
+use Rattle.paper.specs.Layer.{tmin}
+use Rattle.paper.proofs.Thicknesses.{and-true, tmin-least}
 use Rattle.sequence.specs.Sequence.{Rules, lowestEnd, Layer, Built, errorOf, Sequence, Admissible, count}
 use Rattle.sequence.specs.Least.{least, walk}
-use Rattle.sequence.proofs.Layers.{start-from, start-to}
+use Rattle.sequence.specs.Rules.{shape, rules}
+use Rattle.sequence.proofs.Layers.{start-from, start-to, shape-allowed, shape-above, shape-below}
 use Rattle.sequence.proofs.Least.{AtMost, walk-is, least-le}
 
 pub built-low : (p : Rules) (h : ℕ) (ts : List ℕ) → Built p h ts → 32 < h + p .tmax
@@ -52,6 +57,17 @@ pub record Known (p : Rules) (lo : ℕ) : Type 0 where
   pub thick : (h t : ℕ) → Layer p h t → lo ≤ t
   pub above : (h t : ℕ) → Layer p h t → 32 < h
   pub below : (h t : ℕ) → Layer p h t → h - t < lowestEnd (p .height)
+
+-- of the rules of a height, a thickness set and a bound it is known by the shape of a layer, with tmin
+pub rules-known : (N T bound : ℕ) (cell : ℕ → ℕ → ℕ) → Known (rules N T bound cell) (tmin T)
+rules-known N T bound cell = record {
+  thick = λ h t l. tmin-least T t (shape-allowed N T (h - t) t (in-shape h t l)) .1;
+  above = λ h t l. omega (arith, l .above, shape-above N T (h - t) t (in-shape h t l));
+  below = λ h t l. shape-below N T (h - t) t (in-shape h t l);
+}
+  where
+    in-shape : (h t : ℕ) → Layer (rules N T bound cell) h t → shape N T (h - t) t ≡ true
+    in-shape h t l = and-true (shape N T (h - t) t) (leb (cell (h - t) t) bound) (l .allowed) .0
 
 module _ (p : Rules) (lo : ℕ) (known : Known p lo) where
   -- the lowest layer ends above 0, and those on it rise

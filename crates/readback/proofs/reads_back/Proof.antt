@@ -1,7 +1,7 @@
 -- `reads_back` meets its contract: its tests are those of `readsBack`, in their order, and by the rows a step below the lowest is one of more rows
 -- than there are under the layer's end. Assumes nothing.
-use Prim.Native.Nat.{ℕ, _+_, _-_, _≤_, _<_}
-use mathlib.Core.Path.{_≡_, sym, ap, ap₂, _∙_}
+use Prim.Native.Nat.{ℕ, _-_}
+use mathlib.Core.Path.{_≡_, sym, ap, _∙_}
 use mathlib.Core.Bool.{Bool, true, false, not, _&&_, _||_}
 use native.Mathlib.Omega.{arith}
 use borrow.Author.Needs.{needs}
@@ -9,7 +9,6 @@ use borrow.Author.Tests.{not-true, not-false}
 use lib.Dec.{ltb, eqb}
 use Rattle.paper.specs.Layer.{tmax}
 use Rattle.plate.specs.Datum.{atRow}
-use Rattle.plate.specs.declared.settings.Settings.{Settings}
 use Rattle.sequence.specs.Sequence.{lowestEnd}
 use Rattle.sequence.specs.Sheets.{readsBack}
 use Rattle.readback.proofs.Walks.{barred, stepped-under, step-fine}

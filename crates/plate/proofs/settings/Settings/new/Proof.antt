@@ -1,6 +1,6 @@
 -- `Settings::new` meets its contract. Past the tests N and T are settings in the paper's sense, so that the least and the greatest
 -- member are there, every size is small, and the sizes are those of `settingsOf`. Assumes nothing.
-use mathlib.Core.Path.{_≡_, refl, sym, ap, _∙_, subst}
+use mathlib.Core.Path.{_≡_, refl, sym, ap, subst}
 use mathlib.Core.Option.{none}
 use Prim.Native.Nat.{ℕ, _≤_}
 use native.Mathlib.Omega.{arith}
