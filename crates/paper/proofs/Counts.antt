@@ -46,12 +46,6 @@ counts-most N T n l u = go (decLe 2 n) (ℕ-discrete N 1)
 pub counts-some : (N T : ℕ) → 1 ≤ tmin T → 1 ≤ M N T
 counts-some N T l = counts-most N T 1 l (λ m. absurd (omega arith))
 
--- so many layers can end z above the lowest inner boundary, and one more stands on them
-pub counts-start : (N T z : ℕ) → 1 ≤ tmin T → z + 2 ≤ N → z / tmin T + 2 ≤ M N T
-counts-start N T z l u =
-    let e : z / tmin T + 2 - 2 ≡ z / tmin T = omega arith in
-    counts-most N T (z / tmin T + 2) l (λ m. rw e (omega (arith, div-mul-le-self z (tmin T))))
-
 module _ (N T : ℕ) (low : leastHeight ≤ N) (some : 1 ≤ tmax T) where
   abbrev thin : (1 ≤ tmin T) × (tmin T ≤ tmax T)
   thin = tmin-least T (tmax T) (tmax-member T some)

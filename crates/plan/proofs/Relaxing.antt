@@ -68,7 +68,7 @@ pub record Relaxing (table : List ℕ) (bound q t : ℕ) (E F : List ℕ) (first
   pub first-low : first * s .tmax ≤ q - s .tmax
   pub end-some : 1 ≤ end
   pub end-few : end ≤ s .counts
-  pub end-past : (m : ℕ) → end ≤ m → q - t < (m - 1) * s .tmin + s .tmax
+  pub end-past : (m : ℕ) → end ≤ m → m < s .counts → q - t < (m - 1) * s .tmin + s .tmax
   -- where the entries of the first count stand, that the layer starts from and that it ends at
   pub from-is : from ≡ entryIndex (s .counts) (q - t) first
   pub to-is : to ≡ entryIndex (s .counts) q first + 1
@@ -94,7 +94,8 @@ module _ {table : List ℕ} {bound q t : ℕ} {E F : List ℕ} {first end from t
           let k = r .ready .sound in
           let u : (end - 1 + 2) * s .tmax ≤ first * s .tmax = mul-le-mul-right (s .tmax) (omega (arith, r .end-some)) in
           let v : (end - 1) * s .tmin ≤ (end - 1) * s .tmax = mul-le-mul-left (end - 1) (k .order) in
-          absurd (omega (arith, u, v, add-mul (end - 1) 2 (s .tmax), r .end-past end (omega arith), r .first-low, r .permitted .thin))
+          let few = first-few s k q first (r .under .row) (r .first-low) in
+          absurd (omega (arith, u, v, add-mul (end - 1) 2 (s .tmax), r .end-past end (omega arith) (omega arith), r .first-low, r .permitted .thin))
       go (no l) = omega arith
 
   -- the counts that the start row cannot have
@@ -105,11 +106,11 @@ module _ {table : List ℕ} {bound q t : ℕ} {E F : List ℕ} {first end from t
       let d : (m + 1) * s .tmax ≤ first * s .tmax = mul-le-mul-right (s .tmax) (omega arith) in
       least-few p m low (rw (← k .greatest) (omega (arith, k .thick, r .first-low, r .permitted .thin)))
 
-  many : (m : ℕ) → end ≤ m → least p m low ≡ none
-  many m l =
+  many : (m : ℕ) → end ≤ m → m < s .counts → least p m low ≡ none
+  many m l u =
       let e : m ≡ suc (m - 1) = omega (arith, r .end-some) in
       ap (λ (i : ℕ). least p i low) e
-      ∙ least-many p (s .tmin) (known s bound table (r .ready)) (m - 1) low (omega (arith, r .end-past m l, r .ready .sound .thick))
+      ∙ least-many p (s .tmin) (known s bound table (r .ready)) (m - 1) low (omega (arith, r .end-past m l u, r .ready .sound .thick))
 
   -- a candidate, and none where the start row has none
   via-is : (m : ℕ) → via p (λ g. least p m g) high t ≡ plus cell (least p m low)
@@ -119,7 +120,7 @@ module _ {table : List ℕ} {bound q t : ℕ} {E F : List ℕ} {first end from t
   out : (i : ℕ) → i < s .counts + 1 → ((m : ℕ) → i ≡ m + 1 → (m < first) ⊎ (end ≤ m)) → bestTo p i high t ≡ bestTo p i high (t - 1)
   out i l e =
       kept p high t i (r .permitted .thick)
-      (λ m j. via-is m ∙ ap (plus cell) (⊎-elim (λ a. few m a) (λ a. many m a) (e m j)))
+      (λ m j. via-is m ∙ ap (plus cell) (⊎-elim (λ a. few m a) (λ a. many m a (omega arith)) (e m j)))
 
   -- such a count's entries are already right
   errors-right : (i : ℕ) → i < s .counts + 1 → bestTo p i high t ≡ bestTo p i high (t - 1) → errorTo s p q t i ≡ getD E (rowStart (s .counts) q + i) 0

@@ -2,16 +2,18 @@
 -- thicknesses. At a height of 0 or less the two are the same, since no layer ends there. Over it a last layer of thickness t that ends at row q
 -- starts at row q - t; where it is not permitted there, or the row has no sequence of one layer less, it changes nothing. Then the rows one after
 -- the other. Assumes nothing.
-use Prim.Native.Nat.{ℕ, zero, suc, _+_, _-_, _*_, _≤_, _<_}
+use Prim.Native.Nat.{ℕ, zero, suc, _+_, _-_, _*_, _/_, _%_, _≤_, _<_}
 use mathlib.Core.Path.{_≡_, refl, sym, ap, _∙_}
 use mathlib.Core.Bool.{Bool, true, false}
 use mathlib.Core.List.{List}
 use mathlib.Core.Option.{none}
+use native.Mathlib.Nat.{mul-le-mul-right, div-lt-iff-lt-mul}
 use native.Mathlib.Omega.{arith}
 use lib.Arith.{digits-lt}
 use borrow.Author.Tests.{le-leb}
 use lib.ListN.{length, getD, set}
 use Rattle.lists.specs.Best.{Best, nothing, found, value, place}
+use Rattle.lists.specs.Grid.{flat}
 use Rattle.lists.specs.Rewrite.{Span}
 use Rattle.lists.proofs.Spans.{span-none, span-set, span-rest, span-as, span-again, span-self, span-row, span-at, span-is, span-end}
 use Rattle.paper.specs.Layer.{tmax}
@@ -25,7 +27,7 @@ use Rattle.sequence.proofs.BestTo.{kept, none-start, none-apart, none-yet, none
 use Rattle.sequence.proofs.Layers.{start-in, start-high}
 use Rattle.sheets.proofs.Places.{entries-is, row-in}
 use Rattle.plan.specs.Planning.{Ready, planRules, tableRules, plannedErrors, plannedThicknesses}
-use Rattle.plan.specs.Rows.{errorTo, thicknessTo, RowTo, Under, SheetTo}
+use Rattle.plan.specs.Rows.{errorTo, thicknessTo, leastAt, RowTo, Under, SheetTo}
 use Rattle.plan.proofs.Sums.{via-empty, via-thin}
 
 -- the row where the last layer starts
@@ -86,13 +88,6 @@ module _ (s : Settings) (bound : ℕ) (table : List ℕ) (ready : Ready s table)
     thicknesses-are = span-as (r .thicknesses-are) _ (λ m l. ap place (sym (e m)));
   }
 
-  -- a row at 0 or less by no layer is one by all thicknesses
-  pub row-empty : {q n : ℕ} {E₀ F₀ E F : List ℕ} (t : ℕ) → q < s .tmax → RowTo s p q 0 n E₀ F₀ E F → RowTo s p q t n E₀ F₀ E F
-  row-empty zero l r = r
-  row-empty {q} (suc t) l r =
-      row-same (row-as (suc t - 1) (row-empty t l r) (omega arith) (omega arith))
-      (λ m. kept p (atRow (s .tmax) q) (suc t) m (omega arith) (λ i e. via-empty s bound table ready i (atRow (s .tmax) q) (suc t) (omega (arith, ready .sound .thick))))
-
   -- a row by no layer is one by all that are thinner than tmin
   pub row-thin : {q n : ℕ} {E₀ F₀ E F : List ℕ} (t : ℕ) → t < s .tmin → RowTo s p q 0 n E₀ F₀ E F → RowTo s p q t n E₀ F₀ E F
   row-thin zero l r = r
@@ -100,27 +95,45 @@ module _ (s : Settings) (bound : ℕ) (table : List ℕ) (ready : Ready s table)
       row-same (row-as (suc t - 1) (row-thin t (omega arith) r) (omega arith) (omega arith))
       (λ m. kept p (atRow (s .tmax) q) (suc t) m (omega arith) (λ i e. via-thin s bound table ready i (atRow (s .tmax) q) (suc t) l))
 
-  -- a row of the error sheet that was cleared
-  module _ (q : ℕ) {E₀ E : List ℕ} (none-left : Span 0 (rowStart (s .counts) q) (s .counts + 1) (λ m x. missing) E₀ E) where
-    pub row-high : s .tmax ≤ q → Span 0 (rowStart (s .counts) q) (s .counts + 1) (λ m x. errorTo s p q 0 m) E₀ E
-    unfolding errorTo
-    row-high l = span-as none-left _ (λ m u. go m)
-      where
-        go : (m : ℕ) → missing ≡ mark (value (bestTo p m (atRow (s .tmax) q) 0))
-        go zero = rw (above-start q l)
-        go (suc m) = rw (none-yet p (atRow (s .tmax) q) (suc m) (omega arith))
+  -- a row of the error sheet that was cleared is one by no layer where no sequence starts
+  pub row-high : (q : ℕ) {E₀ E : List ℕ} → Span 0 (rowStart (s .counts) q) (s .counts + 1) (λ m x. missing) E₀ E → s .tmax ≤ q
+      → Span 0 (rowStart (s .counts) q) (s .counts + 1) (λ m x. errorTo s p q 0 m) E₀ E
+  unfolding errorTo
+  row-high q none-left l = span-as none-left _ (λ m u. go m)
+    where
+      go : (m : ℕ) → missing ≡ mark (value (bestTo p m (atRow (s .tmax) q) 0))
+      go zero = rw (above-start q l)
+      go (suc m) = rw (none-yet p (atRow (s .tmax) q) (suc m) (omega arith))
 
-    pub row-low : (at : ℕ) → at ≡ rowStart (s .counts) q → at < length E → q < s .tmax → Span 0 (rowStart (s .counts) q) (s .counts + 1) (λ m x. errorTo s p q 0 m) E₀ (set E at 0)
-    unfolding errorTo
-    row-low at e i l = span-again none-left rest
-      where
-        first : Span 0 (rowStart (s .counts) q) 1 (λ m x. mark (value (bestTo p m (atRow (s .tmax) q) 0))) E (set E at 0)
-        first = span-set (span-none (rowStart (s .counts) q) _ E) at 0 (omega arith) i (rw (start-low q l))
+  -- at a height of 0 or less no layer ends, so what is best by no layer is best by all
+  module _ (q : ℕ) (low : q < s .tmax) where
+    empty-best : (m t : ℕ) → bestTo p m (atRow (s .tmax) q) t ≡ bestTo p m (atRow (s .tmax) q) 0
+    empty-best m zero = refl
+    empty-best m (suc t) =
+        let e : suc t - 1 ≡ t = omega arith in
+        kept p (atRow (s .tmax) q) (suc t) m (omega arith) (λ i f. via-empty s bound table ready i (atRow (s .tmax) q) (suc t) (omega (arith, ready .sound .thick)))
+        ∙ ap (bestTo p m (atRow (s .tmax) q)) e
+        ∙ empty-best m t
 
-        rest : Span 0 (rowStart (s .counts) q) (s .counts + 1) (λ m x. mark (value (bestTo p m (atRow (s .tmax) q) 0))) E (set E at 0)
+    empty-least : (m : ℕ) → leastAt s p q m 0 ≡ mark (value (bestTo p m (atRow (s .tmax) q) 0))
+    empty-least m = ap mark (sym (whole-value p m (atRow (s .tmax) q) (s .tmax) all-thicknesses)) ∙ ap (λ (b : Best). mark (value b)) (empty-best m (s .tmax))
+
+    empty-last : (m : ℕ) → last p m (atRow (s .tmax) q) ≡ 0
+    empty-last m =
+        sym (whole-place p m (atRow (s .tmax) q) (s .tmax) all-thicknesses) ∙ ap place (empty-best m (s .tmax)) ∙ none-last p (atRow (s .tmax) q) m
+
+    -- so a row that was cleared, with 0 at count 0, is filled
+    pub row-low : {E₀ E : List ℕ} → Span 0 (rowStart (s .counts) q) (s .counts + 1) (λ m x. missing) E₀ E → (at : ℕ) → at ≡ rowStart (s .counts) q → at < length E
+        → Span 0 (rowStart (s .counts) q) (s .counts + 1) (leastAt s p q) E₀ (set E at 0)
+    row-low {E₀} {E} none-left at e i = span-again none-left rest
+      where
+        first : Span 0 (rowStart (s .counts) q) 1 (leastAt s p q) E (set E at 0)
+        first = span-set (span-none (rowStart (s .counts) q) _ E) at 0 (omega arith) i (sym (empty-least 0 ∙ rw (start-low q low) refl))
+
+        rest : Span 0 (rowStart (s .counts) q) (s .counts + 1) (leastAt s p q) E (set E at 0)
         rest =
             span-rest (s .counts + 1) first (omega arith)
-            (λ m a b. ap (λ (x : Best). mark (value x)) (none-yet p (atRow (s .tmax) q) m a) ∙ sym (first .above (rowStart (s .counts) q + m) (omega arith) ∙ none-left .inside m b))
+            (λ m a b. empty-least m ∙ ap (λ (x : Best). mark (value x)) (none-yet p (atRow (s .tmax) q) m a) ∙ sym (first .above (rowStart (s .counts) q + m) (omega arith) ∙ none-left .inside m b))
 
   -- and one of the thickness sheet: both are those by no layer
   pub row-begun : {q : ℕ} {E₀ E F : List ℕ} → Span 0 (rowStart (s .counts) q) (s .counts + 1) (λ m x. errorTo s p q 0 m) E₀ E
@@ -138,25 +151,19 @@ module _ (s : Settings) (bound : ℕ) (table : List ℕ) (ready : Ready s table)
   }
 
   -- the sheets, row after row
-  pub sheet-none : (E F : List ℕ) → SheetTo s p 0 E F E F
-  sheet-none E F = record {
-    errors-are = span-end (rowStart (s .counts) 0) (span-none 0 _ E) (omega arith) (omega arith);
-    thicknesses-are = span-end (rowStart (s .counts) 0) (span-none 0 _ F) (omega arith) (omega arith);
-  }
-
   pub sheet-under : {q : ℕ} {E₀ F₀ E F : List ℕ} → SheetTo s p q E₀ F₀ E F → q ≤ s .rows → s .entries ≤ length E₀ → s .entries ≤ length F₀ → Under s p q E F
   sheet-under {q} t l a b = record {
     row = l;
     errors-whole = omega (arith, t .errors-are .long);
     thicknesses-whole = omega (arith, t .thicknesses-are .long);
-    filled = λ r m u v. span-at (λ r m x. mark (least p m (atRow (s .tmax) r))) q r m (t .errors-are) u (omega arith);
+    filled = λ r m u v. span-at (leastAt s p) q r m (t .errors-are) u (omega arith);
   }
 
   pub sheet-more : {q : ℕ} {E₀ F₀ E₁ F₁ E F : List ℕ} → SheetTo s p q E₀ F₀ E₁ F₁ → RowTo s p q (s .tmax) (s .counts + 1) E₁ F₁ E F → SheetTo s p (q + 1) E₀ F₀ E F
   unfolding errorTo thicknessTo
   sheet-more {q} t r = record {
     errors-are =
-        span-row (λ r m x. mark (least p m (atRow (s .tmax) r))) q (t .errors-are)
+        span-row (leastAt s p) q (t .errors-are)
         (span-as (r .errors-are) _ (λ m u. ap mark (whole-value p m (atRow (s .tmax) q) (s .tmax) all-thicknesses)));
     thicknesses-are =
         span-row (λ r m x. last p m (atRow (s .tmax) r)) q (t .thicknesses-are)
@@ -165,6 +172,16 @@ module _ (s : Settings) (bound : ℕ) (table : List ℕ) (ready : Ready s table)
 
   -- over a thickness sheet F₁ that was cleared
   module _ {F₀ F₁ : List ℕ} (cleared : Span 0 0 (s .entries) (λ m x. 0) F₀ F₁) where
+    -- the rows at 0 or less, which stay cleared
+    pub sheet-begun : {E₀ E : List ℕ} → Span 0 0 (rowStart (s .counts) (s .tmax)) (flat (s .counts + 1) (leastAt s p)) E₀ E → SheetTo s p (s .tmax) E₀ F₁ E F₁
+    sheet-begun e = record { errors-are = e; thicknesses-are = record { long = refl; inside = still; below = λ i h. refl; above = λ i h. refl } }
+      where
+        still : (i : ℕ) → i < rowStart (s .counts) (s .tmax) → getD F₁ (0 + i) 0 ≡ last p (i % (s .counts + 1)) (atRow (s .tmax) (i / (s .counts + 1)))
+        still i l =
+            let k = ready .sound in
+            let u : rowStart (s .counts) (s .tmax) ≤ (s .rows + 1) * (s .counts + 1) = mul-le-mul-right (s .counts + 1) (omega (arith, k .rows-are, k .low)) in
+            cleared .inside i (omega (arith, u, k .entries-are)) ∙ sym (empty-last (i / (s .counts + 1)) (div-lt-iff-lt-mul (omega arith) .1 l) (i % (s .counts + 1)))
+
     pub sheet-cleared : {q : ℕ} {E₀ E F : List ℕ} → q ≤ s .rows → SheetTo s p q E₀ F₁ E F → Span 0 (rowStart (s .counts) q) (s .counts + 1) (λ m x. 0) F F
     sheet-cleared {q} {F = F} l t = record { long = refl; inside = λ m h. go m (omega arith); below = λ i h. refl; above = λ i h. refl }
       where

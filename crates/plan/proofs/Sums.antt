@@ -12,11 +12,11 @@ use Rattle.paper.specs.Table.{cellIndex}
 use Rattle.paper.proofs.Thicknesses.{and-true, allowed-from, allowed-tmax, tmin-least}
 use Rattle.plate.specs.Datum.{rowOf}
 use Rattle.plate.specs.declared.settings.Settings.{Settings}
-use Rattle.sequence.specs.Sequence.{Rules, lowestEnd}
+use Rattle.sequence.specs.Sequence.{Rules}
 use Rattle.sequence.specs.Least.{via, least}
 use Rattle.sequence.specs.Rules.{shape}
 use Rattle.sequence.proofs.Bounds.{Known, rules-known, least-bound}
-use Rattle.sequence.proofs.Layers.{shape-allowed, shape-above, shape-below, shape-from, shape-to}
+use Rattle.sequence.proofs.Layers.{shape-allowed, shape-above, shape-from, shape-to}
 use Rattle.sequence.proofs.Least.{via-some}
 use Rattle.sequence.proofs.Marks.{Small}
 use Rattle.table.specs.Cells.{cellFrom}
@@ -50,9 +50,6 @@ module _ (s : Settings) (bound : ℕ) (table : List ℕ) (ready : Ready s table)
 
   may-thick : (h t : ℕ) → p .may h t ≡ true → s .tmin ≤ t
   may-thick h t e = omega (arith, ready .sound .least, tmin-least _ t (shape-allowed _ _ h t (shape-of h t e)) .1)
-
-  pub may-below : (h t : ℕ) → p .may h t ≡ true → h < lowestEnd (s .height)
-  may-below h t e = shape-below _ _ h t (shape-of h t e)
 
   -- what is known of every permitted layer
   pub known : Known p (s .tmin)

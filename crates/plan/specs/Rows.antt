@@ -21,6 +21,10 @@ errorTo s p q k m = mark (value (bestTo p m (atRow (s .tmax) q) k))
 unfoldable pub thicknessTo : Settings → Rules → ℕ → ℕ → ℕ → ℕ
 thicknessTo s p q k m = place (bestTo p m (atRow (s .tmax) q) k)
 
+-- the entry of row q and count m of an error sheet that is filled, whatever stood there
+abbrev pub leastAt : Settings → Rules → ℕ → ℕ → ℕ → ℕ
+leastAt s p q m x = mark (least p m (atRow (s .tmax) q))
+
 -- the first n entries of row q of both sheets are those by last layers of at most k, and all else is as it was before
 pub record RowTo (s : Settings) (p : Rules) (q k n : ℕ) (errors-before thicknesses-before errors thicknesses : List ℕ) : Type 0 where
   pub errors-are : Span 0 (rowStart (s .counts) q) n (λ m x. errorTo s p q k m) errors-before errors
@@ -42,7 +46,7 @@ pub record Permitted (s : Settings) (p : Rules) (q t : ℕ) : Type 0 where
 
 -- the first q rows of both sheets are filled, and all else is as it was before
 pub record SheetTo (s : Settings) (p : Rules) (q : ℕ) (errors-before thicknesses-before errors thicknesses : List ℕ) : Type 0 where
-  pub errors-are : Span 0 0 (rowStart (s .counts) q) (flat (s .counts + 1) (λ r m x. mark (least p m (atRow (s .tmax) r)))) errors-before errors
+  pub errors-are : Span 0 0 (rowStart (s .counts) q) (flat (s .counts + 1) (leastAt s p)) errors-before errors
   pub thicknesses-are : Span 0 0 (rowStart (s .counts) q) (flat (s .counts + 1) (λ r m x. last p m (atRow (s .tmax) r))) thicknesses-before thicknesses
 
 -- an error sheet that a plan filled

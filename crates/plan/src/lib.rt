@@ -2,6 +2,7 @@
 ghost use mathlib.Core.Path.{_≡_};
 ghost use Prim.Native.Nat.{ℕ, _+_, _-_, _*_, _/_, _<_, _≤_};
 ghost use lib.ListN.{length};
+ghost use Rattle.lists.specs.Grid.{flat};
 ghost use Rattle.lists.specs.Rewrite.{Span};
 ghost use Rattle.paper.specs.Sheets.{rowStart, entryIndex, missing};
 ghost use Rattle.plate.specs.Call.{Does};
@@ -14,7 +15,7 @@ ghost use Rattle.sheets.specs.Entries.{leastEnd};
 ghost use Rattle.sheets.specs.Least.{IsLeast};
 ghost use Rattle.plan.specs.Plan.{planRest, planChecks, planning, sheetsIn};
 ghost use Rattle.plan.specs.Planning.{Ready, tableRules, plannedErrors, plannedThicknesses, plannedList};
-ghost use Rattle.plan.specs.Rows.{errorTo, RowTo, Under, Permitted, Planned};
+ghost use Rattle.plan.specs.Rows.{leastAt, RowTo, Under, Permitted, Planned};
 use plate::head::Head;
 use plate::refusal::Answer;
 use plate::refusal::Reason;
@@ -70,26 +71,34 @@ fn layers_in(s: Settings, rise: usize, t: usize) -> usize
     (rise as u32 / t as u32) as usize
 }
 
-// Past the counts that the row `start`, below N, can have: at 0 or less no layer ends, and over it layers of at least tmin stand on a lowest one
-// that ends at 1 or more. No count is above the greatest, which is what the highest such row can have and one more.
+// Past the counts that the row `start` can have, or the greatest count: at 0 or less no layer ends, and over it layers of at least tmin stand on a
+// lowest one that ends at 1 or more.
 fn end_count(s: Settings, start: usize) -> usize
     requires { ⌜ Sound s ⌝ }
-    requires { ⌜ start + 1 < s .height + s .tmax ⌝ }
-    ensures { λ r. ⌜ (1 ≤ r) × (r ≤ s .counts) × ((m : ℕ) → r ≤ m → start < (m - 1) * s .tmin + s .tmax) ⌝ }
+    requires { ⌜ start ≤ s .rows ⌝ }
+    ensures { λ r. ⌜ (1 ≤ r) × (r ≤ s .counts) × ((m : ℕ) → r ≤ m → m < s .counts → start < (m - 1) * s .tmin + s .tmax) ⌝ }
 {
     if start < s.tmax {
         return 1;
     }
-    layers_in(s, start - s.tmax, s.tmin) + 2
+    let end = layers_in(s, start - s.tmax, s.tmin) + 2;
+    if s.counts < end {
+        return s.counts;
+    }
+    end
 }
 
-// Fewer layers than this do not reach even the lowest row from which a layer ends at row q, above 0.
-fn first_count(s: Settings, q: usize) -> usize
+// Fewer layers than this do not reach even the lowest row from which a layer ends at row q, above 0, where `first` is so of a row not above q. It is
+// raised from row to row and not divided for.
+fn raised(s: Settings, q: usize, first: usize) -> usize
     requires { ⌜ Sound s ⌝ }
-    requires { ⌜ (s .tmax ≤ q) × (q ≤ s .rows) ⌝ }
+    requires { ⌜ (s .tmax ≤ q) × (q ≤ s .rows) × (first * s .tmax ≤ q - s .tmax) ⌝ }
     ensures { λ r. ⌜ r * s .tmax ≤ q - s .tmax ⌝ }
 {
-    layers_in(s, q - s.tmax, s.tmax)
+    if (first + 1) * s.tmax <= q - s.tmax {
+        return first + 1;
+    }
+    first
 }
 
 // Row q of an error sheet with no sequence at all.
@@ -119,16 +128,27 @@ fn clear_thicknesses(s: Settings, thicknesses: &mut [u8])
     }
 }
 
-// The errors of row q by no layer: 0 at count 0 of a start height, and none elsewhere.
+// The errors of row q at a height of 0 or less: 0 at count 0, and none elsewhere.
 fn start_row(table: &[u32], s: Settings, bound: u32, q: usize, errors: &mut [u64])
     requires { ⌜ Ready s (now table) ⌝ }
-    requires { ⌜ (q ≤ s .rows) × (s .entries ≤ length (now errors)) ⌝ }
-    ensures { λ _. ⌜ Span 0 (rowStart (s .counts) q) (s .counts + 1) (λ m x. errorTo s (tableRules s bound (now (table .entry))) q 0 m) (now (errors .entry)) (now (errors .exit)) ⌝ }
+    requires { ⌜ (q < s .tmax) × (s .entries ≤ length (now errors)) ⌝ }
+    ensures { λ _. ⌜ Span 0 (rowStart (s .counts) q) (s .counts + 1) (leastAt s (tableRules s bound (now (table .entry))) q) (now (errors .entry)) (now (errors .exit)) ⌝ }
 {
     clear_errors(s, q, errors);
     let at = entry_of(s, q, 0);
-    if q < s.tmax {
-        errors[at] = 0;
+    errors[at] = 0;
+}
+
+// The rows at heights of 0 or less, where no layer ends.
+fn start_rows(table: &[u32], s: Settings, bound: u32, errors: &mut [u64])
+    requires { ⌜ Ready s (now table) ⌝ }
+    requires { ⌜ s .entries ≤ length (now errors) ⌝ }
+    ensures { λ _. ⌜ Span 0 0 (rowStart (s .counts) (s .tmax)) (flat (s .counts + 1) (leastAt s (tableRules s bound (now (table .entry))))) (now (errors .entry)) (now (errors .exit)) ⌝ }
+{
+    let mut q = 0;
+    while q < s.tmax {
+        start_row(table, s, bound, q, errors);
+        q += 1;
     }
 }
 
@@ -188,26 +208,23 @@ fn step_row(
     }
 }
 
-// Fills row q of both sheets, whose rows under it are filled, and whose thicknesses are cleared: thickness by thickness, from tmin on. No layer ends
-// at 0 or less.
+// Fills row q of both sheets, above 0, whose rows under it are filled, and whose thicknesses are cleared: thickness by thickness, from tmin on.
 fn fill_row(
     table: &[u32],
     s: Settings,
     bound: u32,
     q: usize,
+    first: usize,
     errors: &mut [u64],
     thicknesses: &mut [u8],
 )
     requires { ⌜ Ready s (now table) ⌝ }
+    requires { ⌜ (s .tmax ≤ q) × (first * s .tmax ≤ q - s .tmax) ⌝ }
     requires { ⌜ Under s (tableRules s bound (now table)) q (now errors) (now thicknesses) ⌝ }
     requires { ⌜ Span 0 (rowStart (s .counts) q) (s .counts + 1) (λ m x. 0) (now thicknesses) (now thicknesses) ⌝ }
     ensures { λ _. ⌜ RowTo s (tableRules s bound (now (table .entry))) q (s .tmax) (s .counts + 1) (now (errors .entry)) (now (thicknesses .entry)) (now (errors .exit)) (now (thicknesses .exit)) ⌝ }
 {
-    start_row(table, s, bound, q, errors);
-    if q < s.tmax {
-        return;
-    }
-    let first = first_count(s, q);
+    clear_errors(s, q, errors);
     let mut t = s.tmin - 1;
     while t < s.tmax {
         t += 1;
@@ -215,7 +232,7 @@ fn fill_row(
     }
 }
 
-// Fills both sheets, row by row.
+// Fills both sheets: the rows at 0 or less, and then row by row.
 fn fill_sheets(table: &[u32], s: Settings, bound: u32, errors: &mut [u64], thicknesses: &mut [u8])
     requires { ⌜ Ready s (now table) ⌝ }
     requires { ⌜ (s .entries ≤ length (now errors)) × (s .entries ≤ length (now thicknesses)) ⌝ }
@@ -223,9 +240,12 @@ fn fill_sheets(table: &[u32], s: Settings, bound: u32, errors: &mut [u64], thick
     ensures { λ _. ⌜ now (thicknesses .exit) ≡ plannedThicknesses (s .height) (s .members) (tableRules s bound (now (table .entry))) (now (thicknesses .entry)) ⌝ }
 {
     clear_thicknesses(s, thicknesses);
-    let mut q = 0;
+    start_rows(table, s, bound, errors);
+    let mut first = 0;
+    let mut q = s.tmax;
     while q <= s.rows {
-        fill_row(table, s, bound, q, errors, thicknesses);
+        first = raised(s, q, first);
+        fill_row(table, s, bound, q, first, errors, thicknesses);
         q += 1;
     }
 }

@@ -57,7 +57,7 @@ use Rattle.promises.specs.Plans.{Room, Answers, ReadsBack}
 pub cell-height : (T : ℕ) → 1 ≤ tmax T → (table : List ℕ) (h t : ℕ) → cellAt T table (heightOf h) t ≡ cellFrom T table h t
 cell-height T l table h t = cell-is T l table (heightOf h) t ∙ ap (λ (g : ℕ). cellFrom T table g t) (datum-height h)
 
-pub rules-are : (N T bound : ℕ) (table : List ℕ) → 1 ≤ tmax T → planRules N T bound table ≡ meaning.rulesOf (ofTable N T table) bound
+rules-are : (N T bound : ℕ) (table : List ℕ) → 1 ≤ tmax T → planRules N T bound table ≡ meaning.rulesOf (ofTable N T table) bound
 unfolding planRules
 rules-are N T bound table l = ap (rules N T bound) (fun-ext (λ h. fun-ext (λ t. sym (cell-height T l table h t))))
 

@@ -106,7 +106,7 @@ module _ (N T bound : ℕ) (table : List ℕ) (settings : paper.Settings N T) (z
         first-above
         (λ i. simp (lt-leb (lowestEnd N) below (shape-below N T below (above - below) (m .0)), le-ltb above (lowestEnd N) (subst (λ (j : ℕ). lowestEnd N ≤ datum (zs ! j)) (sym i) end-high)))
 
-    pub admissible-counted : answer ≡ done (error p zs)
+    admissible-counted : answer ≡ done (error p zs)
     unfolding sequenceChecks firstFault
     admissible-counted =
         simp
@@ -204,7 +204,7 @@ module _ (N T bound : ℕ) (table : List ℕ) (settings : paper.Settings N T) (z
       before zero u = at-start ∙ e
       before (suc j) u = words layered start j (λ i v. quiet-before i (omega arith)) ∙ quiet-before j (omega arith)
 
-  pub verdict : Verdict
+  verdict : Verdict
   verdict = go startOut refl
     where
       past : startOut ≡ false → 2 ≤ length zs → starts (tmax T) (datum (zs ! 0)) ≡ true → Dec (m < count zs) → Verdict

@@ -1,4 +1,4 @@
--- What code over the sheets needs: heights under the lowest start have none, sums are bounded, and a height can have only so many counts
+-- What code over the sheets needs: what is built lies over the lowest start, sums are bounded, and a height can have only so many counts
 -- and so few, since layers of at least `lo` rise from the lowest that ends above 0 and those of at most tmax from the highest start. A sequence's
 -- last layer starts below N, so there are only so many in all. Each by induction on the layers from the top down. Assumes nothing.
 use Prim.Native.Nat.{ℕ, suc, _+_, _-_, _*_, _≤_, _<_}
@@ -32,9 +32,6 @@ least-none p m h = (to, λ f. is-none (least p m h) (λ e q. let w = walk-is p m
   where
     to : least p m h ≡ none → (ts : List ℕ) → length ts ≡ m → Built p h ts → ⊥
     to q ts l b = subst (λ (o : Option ℕ). AtMost o (errorOf p h ts)) (ap (λ k. least p k h) l ∙ q) (least-le p h ts b)
-
-pub least-low : (p : Rules) (m h : ℕ) → h + p .tmax ≤ 32 → least p m h ≡ none
-least-low p m h l = least-none p m h .1 (λ ts e b. let x = built-low p h ts b in omega arith)
 
 -- sums
 pub error-bound : (p : Rules) (B : ℕ) → ((h t : ℕ) → Layer p h t → p .cell (h - t) t ≤ B) → (h : ℕ) (ts : List ℕ) → Built p h ts → errorOf p h ts ≤ length ts * B
@@ -71,7 +68,7 @@ rules-known N T bound cell = record {
 
 module _ (p : Rules) (lo : ℕ) (known : Known p lo) where
   -- the lowest layer ends above 0, and those on it rise
-  pub count-low : (h t : ℕ) (ts : List ℕ) → Built p h (t ∷ ts) → length ts * lo + 33 ≤ h
+  count-low : (h t : ℕ) (ts : List ℕ) → Built p h (t ∷ ts) → length ts * lo + 33 ≤ h
   count-low h t [] b = omega (arith, known .above h t (b .0))
   count-low h t (u ∷ us) b =
       let x = count-low (h - t) u us (b .1) in

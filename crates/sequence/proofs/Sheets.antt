@@ -44,7 +44,7 @@ entry-is N T sheet f n holds m h l u v =
 
 -- whatever layer of however many it is, one that has the shape of a layer reads back
 module _ (N T n k h t : ℕ) where
-  pub shape-reads : t ≤ h → shape N T (h - t) t ≡ true → readsBack N T n k h t ≡ true
+  shape-reads : t ≤ h → shape N T (h - t) t ≡ true → readsBack N T n k h t ≡ true
   unfolding readsBack
   shape-reads l e =
       simp

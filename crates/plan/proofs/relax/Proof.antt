@@ -1,23 +1,15 @@
 -- `relax` meets its contract: the layer is put on the sequences of the counts that the row where it starts can have, and for no other count
 -- is there anything to do (`Relaxing`). Assumes nothing.
-use Prim.Native.Nat.{_+_, _-_, _*_, _≤_, _<_}
+use Prim.Native.Nat.{_+_, _-_, _*_, _≤_}
 use mathlib.Core.Path.{_≡_, refl, ap}
 use native.Mathlib.Omega.{arith}
 use borrow.Author.Needs.{needs}
-use Rattle.plate.specs.Datum.{atRow}
-use Rattle.plan.proofs.Sums.{may-below}
 use Rattle.plan.proofs.Relaxing.{Relaxing, rows-under, first-few, first-end, from-before, to-in, relaxed}
 use Rattle.plan.proofs.relax.Statement.{statement}
 use Rattle.plan.proofs.relax.Tie as tie
 
 first-in : (s : tie.Start) → s .args .first ≤ s .args .s .counts
 first-in s = first-few (s .args .s) (s .pre .0 .sound) (s .args .q) (s .args .first) (s .pre .1 .0 .row) (s .pre .1 .1 .1 .0)
-
--- the layer starts below N
-start-low : (s : tie.Start) → s .args .q - s .args .t + 1 < s .args .s .height + s .args .s .tmax
-start-low s =
-    let h = atRow (s .args .s .tmax) (s .args .q - s .args .t) in
-    omega (arith, may-below (s .args .s) _ _ (s .pre .0) h (s .args .t) (s .pre .1 .1 .0 .permitted), s .pre .0 .sound .thick)
 
 -- past the entry of row q
 module _ (c : tie.After-entry-of) where
@@ -62,7 +54,7 @@ relax-spec =
     (λ c. let e = c .before in omega (arith, under e))
     (λ c. let e = c .before in omega (arith, e .entry-of .ensures .1, begun e .pre .0 .sound .few-entries))
     (λ c κs. let s = begun (c .before) in (s .pre .0, (omega (arith, s .pre .1 .0 .row, s .pre .1 .1 .0 .thick, s .pre .1 .1 .0 .above), s .pre .1 .1 .0 .thick, s .pre .1 .1 .0 .thin)))
-    (λ c κs. let s = begun (c .before .before) in (s .pre .0 .sound, start-low s))
+    (λ c κs. let s = begun (c .before .before) in (s .pre .0 .sound, omega (arith, s .pre .1 .0 .row)))
     (λ c. first-end (found c))
     (λ c. omega (arith, to-in (found c), s c .pre .0 .sound .few-entries))
     (λ c. omega (arith, under (e c), e c .entry-of .ensures .1, s c .pre .0 .sound .few-entries))
