@@ -1,12 +1,13 @@
 -- The lowest index that passes a test, for a loop that goes up and remembers that none passed so far. Every way out of such a
 -- loop is `found` or `missed`; a loop over rows adds a row by `row-missed` and leaves it by `row-found`. Assumes nothing.
 use mathlib.Core.Path.{_≡_, refl, sym, ap, _∙_, subst}
-use mathlib.Core.Bool.{Bool, true, false, cond}
+use mathlib.Core.Bool.{Bool, true, false, cond, _||_}
 use Prim.Native.Nat.{ℕ, zero, suc, _+_, _-_, _≤_, _<_}
 use native.Mathlib.Nat.{not-suc-le-zero, le-of-suc-le-suc}
 use native.Mathlib.Omega.{arith}
 use native.Mathlib.Decide.{decLt}
-use Rattle.lists.specs.Search.{lowest}
+use Rattle.lists.specs.Search.{lowest, someBelow}
+use Rattle.lists.proofs.Checks.{or-false}
 
 pub lowest-hit : (p : ℕ → Bool) (n i : ℕ) → i < n → ((k : ℕ) → k < i → p k ≡ false) → p i ≡ true → lowest p n ≡ i
 unfolding lowest
@@ -87,3 +88,24 @@ module _ (p : ℕ → Bool) (a w : ℕ) (before : (k : ℕ) → k < a → p k �
   pub row-found : (n : ℕ) → a + w ≤ n → x < w → a + x ≡ lowest p n
   row-found n r h =
       found p n (a + x) (omega arith) none-under (same x h ∙ ap q e ∙ lowest-passes q w (omega arith))
+
+-- ---- whether some index passes, for a loop that goes through all of them
+
+pub none-passes : (p : ℕ → Bool) (n : ℕ) → ((k : ℕ) → k < n → p k ≡ false) → someBelow p n ≡ false
+unfolding someBelow
+none-passes p zero e = refl
+none-passes p (suc n) e = rw (none-passes p n (λ k l. e k (omega arith))) (e n (omega arith))
+
+pub none-passed : (p : ℕ → Bool) (n : ℕ) → someBelow p n ≡ false → (k : ℕ) → k < n → p k ≡ false
+unfolding someBelow
+none-passed p zero e k l = absurd (not-suc-le-zero l)
+none-passed p (suc n) e k l = let q = or-false (someBelow p n) (p n) e in go (decLt k n) (none-passed p n (q .0) k) (q .1)
+  where
+    go : Dec (k < n) → (k < n → p k ≡ false) → p n ≡ false → p k ≡ false
+    go (yes u) before last = before u
+    go (no u) before last = let i : n ≡ k = omega arith in subst (λ (i : ℕ). p i ≡ false) i last
+
+pub same-below : (p q : ℕ → Bool) (n : ℕ) → ((k : ℕ) → k < n → p k ≡ q k) → someBelow p n ≡ someBelow q n
+unfolding someBelow
+same-below p q zero e = refl
+same-below p q (suc n) e = (λ i. same-below p q n (λ k l. e k (omega arith)) i || e n (omega arith) i)
