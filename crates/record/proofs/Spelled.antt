@@ -8,16 +8,23 @@ use native.Mathlib.Nat.{add-zero}
 use native.Mathlib.Omega.{arith}
 use lib.ListN.{length, getD, drop, length-append, length-drop}
 use lib.Seq.{getD-drop, drop-drop, drop-cons, drop-append-seam}
-use Rattle.record.specs.Bytes.{Bytes, le16, le32, words}
+use Rattle.record.specs.Bytes.{Bytes, le16, le32, numbers, words, quads}
 use Rattle.record.specs.Frame.{lengthAt, kindAt, bodyAt, pastAt}
-use Rattle.record.specs.Written.{bytes16, bytes32, bytesOf, framed}
+use Rattle.record.specs.Written.{bytes16, bytes32, spelled, bytesOf, quadBytesOf, framed}
 
 -- ---- how many bytes, and that they are bytes
 
+length-spelled : (bytes : ℕ → List ℕ) (width : ℕ) → ((n : ℕ) → length (bytes n) ≡ width) → (ns : List ℕ) → length (spelled bytes ns) ≡ width * length ns
+length-spelled bytes width long [] = omega arith
+length-spelled bytes width long (n ∷ ns) = omega (arith, length-append (bytes n) (spelled bytes ns), long n, length-spelled bytes width long ns)
+
 pub length-bytesOf : (ns : List ℕ) → length (bytesOf ns) ≡ 2 * length ns
 unfolding bytesOf bytes16
-length-bytesOf [] = refl
-length-bytesOf (n ∷ ns) = let e = length-bytesOf ns in omega arith
+length-bytesOf ns = length-spelled bytes16 2 (λ n. refl) ns
+
+pub length-quadBytesOf : (ns : List ℕ) → length (quadBytesOf ns) ≡ 4 * length ns
+unfolding quadBytesOf bytes32 bytes16
+length-quadBytesOf ns = length-spelled bytes32 4 (λ n. refl) ns
 
 pub length-framed : (kind : ℕ) (body : List ℕ) → length (framed kind body) ≡ 4 + length body
 unfolding framed bytes16
@@ -41,10 +48,17 @@ pub bytes-32 : (n : ℕ) → Bytes (bytes32 n)
 unfolding bytes32
 bytes-32 n = bytes-append (bytes16 n) (bytes16 (n / 65536)) (bytes-16 n) (bytes-16 (n / 65536))
 
+bytes-spelled : (bytes : ℕ → List ℕ) → ((n : ℕ) → Bytes (bytes n)) → (ns : List ℕ) → Bytes (spelled bytes ns)
+bytes-spelled bytes each [] = bytes-none
+bytes-spelled bytes each (n ∷ ns) = bytes-append (bytes n) (spelled bytes ns) (each n) (bytes-spelled bytes each ns)
+
 pub bytes-of : (ns : List ℕ) → Bytes (bytesOf ns)
 unfolding bytesOf
-bytes-of [] = bytes-none
-bytes-of (n ∷ ns) = bytes-append (bytes16 n) (bytesOf ns) (bytes-16 n) (bytes-of ns)
+bytes-of = bytes-spelled bytes16 bytes-16
+
+pub bytes-of-quads : (ns : List ℕ) → Bytes (quadBytesOf ns)
+unfolding quadBytesOf
+bytes-of-quads = bytes-spelled bytes32 bytes-32
 
 pub bytes-framed : (kind : ℕ) (body : List ℕ) → Bytes body → Bytes (framed kind body)
 unfolding framed
@@ -53,10 +67,9 @@ bytes-framed kind body b = bytes-append (bytes16 (length body)) (bytes16 kind ++
 -- ---- written, then read
 
 -- n numbers, the first one first
-words-first : (s : List ℕ) (at n : ℕ) → words s at (suc n) ≡ le16 s at ∷ words s (at + 2) n
-unfolding words
-words-first s at zero = ap (λ (k : ℕ). le16 s k ∷ []) (add-zero at)
-words-first s at (suc n) = let e : at + 2 * suc n ≡ at + 2 + 2 * n = omega arith in rw (words-first s at n, e)
+numbers-first : (read : ℕ → ℕ) (width at n : ℕ) → numbers read width at (suc n) ≡ read at ∷ numbers read width (at + width) n
+numbers-first read width at zero = let e : at + width * 0 ≡ at = omega arith in rw e refl
+numbers-first read width at (suc n) = let e : at + width * suc n ≡ at + width + width * n = omega arith in rw (numbers-first read width at n, e) refl
 
 -- what stands after it
 pub behind : (s : List ℕ) (at : ℕ) (x rest : List ℕ) → drop at s ≡ x ++ rest → drop (at + length x) s ≡ rest
@@ -77,14 +90,26 @@ read32 s at n rest l e =
     let high = read16 s (at + 2) (n / 65536) rest (behind s at (bytes16 n) (bytes16 (n / 65536) ++ rest) e) in
     omega arith
 
+-- numbers of one width, where each of them is read as it is spelled
+module _ (s : List ℕ) (read : ℕ → ℕ) (width : ℕ) (bytes : ℕ → List ℕ) (long : (n : ℕ) → length (bytes n) ≡ width) where
+  readNumbers : (small : ℕ → Type 0) → ((at n : ℕ) (rest : List ℕ) → small n → drop at s ≡ bytes n ++ rest → read at ≡ n)
+      → (at : ℕ) (ns rest : List ℕ) → ((k : ℕ) → k < length ns → small (getD ns k 0)) → drop at s ≡ spelled bytes ns ++ rest → numbers read width at (length ns) ≡ ns
+  readNumbers small each at [] rest fit e = refl
+  readNumbers small each at (n ∷ ns) rest fit e =
+      let f = e ∙ append-assoc (bytes n) (spelled bytes ns) rest in
+      let a = each at n (spelled bytes ns ++ rest) (fit 0 (omega arith)) f in
+      let b = rw long at (behind s at (bytes n) (spelled bytes ns ++ rest) f) in
+      let c = readNumbers small each (at + width) ns rest (λ k l. fit (suc k) (omega arith)) b in
+      numbers-first read width at (length ns) ∙ (λ i. a i ∷ c i)
+
 pub readWords : (s : List ℕ) (at : ℕ) (ns rest : List ℕ) → ((k : ℕ) → k < length ns → getD ns k 0 < 65_536) → drop at s ≡ bytesOf ns ++ rest → words s at (length ns) ≡ ns
 unfolding bytesOf bytes16 words
-readWords s at [] rest small e = refl
-readWords s at (n ∷ ns) rest small e =
-    let a = read16 s at n (bytesOf ns ++ rest) e in
-    let b : le16 s at ≡ n = omega (arith, small 0 (omega arith)) in
-    let c = readWords s (at + 2) ns rest (λ k l. small (suc k) (omega arith)) (behind s at (bytes16 n) (bytesOf ns ++ rest) e) in
-    words-first s at (length ns) ∙ (λ i. b i ∷ c i)
+readWords s = readNumbers s (le16 s) 2 bytes16 (λ n. refl) (λ n. n < 65_536) (λ at n rest l e. let w = read16 s at n rest e in omega arith)
+
+pub readQuads : (s : List ℕ) (at : ℕ) (ns rest : List ℕ) → ((k : ℕ) → k < length ns → getD ns k 0 < 4_294_967_296) → drop at s ≡ quadBytesOf ns ++ rest
+    → quads s at (length ns) ≡ ns
+unfolding quadBytesOf bytes32 bytes16 quads
+readQuads s = readNumbers s (le32 s) 4 bytes32 (λ n. refl) (λ n. n < 4_294_967_296) (read32 s)
 
 -- a record that stands at a place: its length, its kind, its body, and that it ends in the input
 pub record Stands (s : List ℕ) (at kind : ℕ) (body rest : List ℕ) : Type 0 where
@@ -142,12 +167,22 @@ module _ (s : List ℕ) (byte : Bytes s) where
       joined s (bytes16 x) (bytes16 y) at (at + 2) (at + 4) (write16 at (omega arith)) (rw q at (write16 (at + 2) (omega arith)))
       ∙ (λ i. a i ∷ b i ∷ c i % 256 ∷ c i / 256 % 256 ∷ drop (at + 4) s)
 
+  writeNumbers : (read : ℕ → ℕ) (width : ℕ) (bytes : ℕ → List ℕ) → ((at : ℕ) → at + width ≤ length s → drop at s ≡ bytes (read at) ++ drop (at + width) s)
+      → (n at : ℕ) → at + width * n ≤ length s → drop at s ≡ spelled bytes (numbers read width at n) ++ drop (at + width * n) s
+  writeNumbers read width bytes each zero at l = let e : at + width * 0 ≡ at = omega arith in rw e refl
+  writeNumbers read width bytes each (suc n) at l =
+      let q : at + width + width * n ≡ at + width * suc n = omega arith in
+      rw numbers-first
+      (joined s (bytes (read at)) (spelled bytes (numbers read width (at + width) n)) at (at + width) (at + width * suc n) (each at (omega arith))
+      (rw q at (writeNumbers read width bytes each n (at + width) (omega arith))))
+
   pub writeWords : (n at : ℕ) → at + 2 * n ≤ length s → drop at s ≡ bytesOf (words s at n) ++ drop (at + 2 * n) s
   unfolding bytesOf words
-  writeWords zero at l = rw add-zero refl
-  writeWords (suc n) at l =
-      let q : at + 2 + 2 * n ≡ at + 2 * suc n = omega arith in
-      rw words-first (joined s (bytes16 (le16 s at)) (bytesOf (words s (at + 2) n)) at (at + 2) (at + 2 * suc n) (write16 at (omega arith)) (rw q at (writeWords n (at + 2) (omega arith))))
+  writeWords = writeNumbers (le16 s) 2 bytes16 write16
+
+  pub writeQuads : (n at : ℕ) → at + 4 * n ≤ length s → drop at s ≡ quadBytesOf (quads s at n) ++ drop (at + 4 * n) s
+  unfolding quadBytesOf quads
+  writeQuads = writeNumbers (le32 s) 4 bytes32 write32
 
   -- a record, where its body is known
   pub writeFrame : (at kind : ℕ) (body : List ℕ) → pastAt s at ≤ length s → kindAt s at ≡ kind

@@ -1,13 +1,13 @@
 -- Bytes stored one after the other from a place on: what is stored in two parts is stored at once. By induction on what is stored. And numbers
 -- of four bytes as two of two. Assumes nothing.
-use mathlib.Core.Path.{_≡_, refl, ap, _∙_}
-use mathlib.Core.List.{List, [], _∷_, _++_}
+use mathlib.Core.Path.{_≡_, refl, sym, ap, _∙_}
+use mathlib.Core.List.{List, [], _∷_, _++_, append-assoc}
 use Prim.Native.Nat.{ℕ, suc, _+_, _*_, _/_, _%_, _≤_, _<_}
 use native.Mathlib.Omega.{arith}
 use borrow.Author.Tests.{le-leb, lt-leb}
 use lib.ListN.{length, set}
 use lib.Seq.{sets}
-use Rattle.record.specs.Written.{bytes16, bytes32, bytesOf, laidAt}
+use Rattle.record.specs.Written.{bytes16, bytes32, spelled, bytesOf, quadBytesOf, laidAt}
 use Rattle.record.proofs.Spelled.{low-byte}
 
 pub stored-behind : (l : List ℕ) (at : ℕ) (xs ys : List ℕ) → sets (sets l at xs) (at + length xs) ys ≡ sets l at (xs ++ ys)
@@ -41,10 +41,17 @@ remainder n =
     let high : n % 65536 / 256 % 256 ≡ n / 256 % 256 = low-byte (n % 65536 / 256) (n / 65536) ∙ ap (λ (m : ℕ). m % 256) quotient in
     rw (low, high)
 
+spelled-append : (bytes : ℕ → List ℕ) (ms ns : List ℕ) → spelled bytes (ms ++ ns) ≡ spelled bytes ms ++ spelled bytes ns
+spelled-append bytes [] ns = refl
+spelled-append bytes (m ∷ ms) ns = ap (λ (l : List ℕ). bytes m ++ l) (spelled-append bytes ms ns) ∙ sym (append-assoc (bytes m) (spelled bytes ms) (spelled bytes ns))
+
 pub numbers-append : (ms ns : List ℕ) → bytesOf (ms ++ ns) ≡ bytesOf ms ++ bytesOf ns
-unfolding bytesOf bytes16
-numbers-append [] ns = refl
-numbers-append (m ∷ ms) ns = ap (λ (l : List ℕ). bytes16 m ++ l) (numbers-append ms ns)
+unfolding bytesOf
+numbers-append = spelled-append bytes16
+
+pub quads-append : (ms ns : List ℕ) → quadBytesOf (ms ++ ns) ≡ quadBytesOf ms ++ quadBytesOf ns
+unfolding quadBytesOf
+quads-append = spelled-append bytes32
 
 -- four bytes are two numbers of two
 pub halves : (n : ℕ) → bytesOf (n % 65536 ∷ n / 65536 ∷ []) ≡ bytes32 n

@@ -15,7 +15,14 @@ le16 s at = getD s at 0 + 256 * getD s (at + 1) 0
 unfoldable pub le32 : List ℕ → ℕ → ℕ
 le32 s at = le16 s at + 65536 * le16 s (at + 2)
 
--- n numbers of two bytes each, from a place on
+-- n numbers from a place on, each read where it stands, so many bytes apart
+abbrev pub numbers : (ℕ → ℕ) → ℕ → ℕ → ℕ → List ℕ
+numbers read width start zero = []
+numbers read width start (suc n) = numbers read width start n ++ (read (start + width * n) ∷ [])
+
+-- of two bytes each, and of four
 unfoldable pub words : List ℕ → ℕ → ℕ → List ℕ
-words s start zero = []
-words s start (suc n) = words s start n ++ (le16 s (start + 2 * n) ∷ [])
+words s start n = numbers (le16 s) 2 start n
+
+unfoldable pub quads : List ℕ → ℕ → ℕ → List ℕ
+quads s start n = numbers (le32 s) 4 start n

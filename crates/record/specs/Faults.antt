@@ -26,9 +26,12 @@ wrongLength right at = check 16 (not right) at
 abbrev pub bodyCut : List ℕ → ℕ → Check Numbered
 bodyCut s at = check 16 (ltb (left s (bodyAt at)) (lengthAt s at)) at
 
--- a number that the record at a place gives, and what the file has
+-- contents that disagree with the file: by some test, or a number that the record gives and what the file has
+abbrev pub disagrees : Bool → ℕ → Check Numbered
+disagrees when at = check 16 when at
+
 abbrev pub unequal : ℕ → ℕ → ℕ → Check Numbered
-unequal given counted at = check 16 (not (eqb given counted)) at
+unequal given counted at = disagrees (not (eqb given counted)) at
 
 -- bytes after the end, at the first of them
 abbrev pub tail : List ℕ → ℕ → Check Numbered

@@ -14,10 +14,17 @@ bytes16 n = n % 256 ∷ n / 256 % 256 ∷ []
 unfoldable pub bytes32 : ℕ → List ℕ
 bytes32 n = bytes16 n ++ bytes16 (n / 65536)
 
--- numbers of two bytes each
+-- numbers one after the other, each spelled in bytes
+abbrev pub spelled : (ℕ → List ℕ) → List ℕ → List ℕ
+spelled bytes [] = []
+spelled bytes (n ∷ ns) = bytes n ++ spelled bytes ns
+
+-- of two bytes each, and of four
 unfoldable pub bytesOf : List ℕ → List ℕ
-bytesOf [] = []
-bytesOf (n ∷ ns) = bytes16 n ++ bytesOf ns
+bytesOf ns = spelled bytes16 ns
+
+unfoldable pub quadBytesOf : List ℕ → List ℕ
+quadBytesOf ns = spelled bytes32 ns
 
 -- a record of a kind, with its body
 unfoldable pub framed : ℕ → List ℕ → List ℕ
