@@ -1,0 +1,4 @@
+pub mod Kinds
+pub mod Start
+pub mod Written
+pub mod File
