@@ -1,13 +1,18 @@
--- Of a plate's columns in another order, or dealt into groups, each is a column. Assumes nothing.
-use Prim.Native.Nat.{ℕ}
+-- Of a plate's columns in another order, or dealt into groups, each is a column, and they are as many. Assumes nothing.
+use Prim.Native.Nat.{ℕ, _≤_}
 use mathlib.Core.Path.{subst}
 use mathlib.Core.Logic.{∥∥₁-elim}
 use mathlib.Core.HLevel.{Unit-prop, Π-prop, ×-prop}
-use mathlib.Core.List.{List, [], _∷_, Perm, List·Permᴰ, List·Permᴰ·nil, List·Permᴰ·cons, List·Permᴰ·swap, List·Permᴰ·trans}
+use mathlib.Core.List.{List, [], _∷_, Perm, Perm·symm, List·Permᴰ, List·Permᴰ·nil, List·Permᴰ·cons, List·Permᴰ·swap, List·Permᴰ·trans}
 use native.Mathlib.Bridge.{le-prop}
 use native.Mathlib.Nat.{ℕ-set}
+use native.Mathlib.Omega.{arith}
+use lib.ListN.{length}
+use Rattle.lists.proofs.Perm.{length-perm}
+use Rattle.paper.specs.Limits.{mostColumns}
 use Rattle.paper.specs.Layer.{Column, IsColumn}
 use Rattle.promises.specs.Runs.{Columns}
+use Rattle.promises.specs.Ways.{WithinLimits}
 
 column-prop : (N : ℕ) (column : Column) → IsProp (IsColumn N column)
 column-prop N column x y = λ i. record {
@@ -29,3 +34,11 @@ columns-permᴰ N (List·Permᴰ·trans d e) c = columns-permᴰ N e (columns-pe
 
 pub columns-perm : (N : ℕ) (xs ys : List Column) → Perm xs ys → Columns N xs → Columns N ys
 columns-perm N xs ys p c = ∥∥₁-elim p (columns-prop N ys) (λ d. columns-permᴰ N d c)
+
+-- of a plate within limits
+module _ (N T : ℕ) (plate : List Column) (within : WithinLimits N T plate) (columns : List Column) (p : Perm columns plate) where
+  pub ordered : Columns N columns
+  ordered = columns-perm N plate columns (Perm·symm p) (within .columns)
+
+  pub as-few : length columns ≤ mostColumns
+  as-few = let e = length-perm columns plate p in let f = within .few in omega arith

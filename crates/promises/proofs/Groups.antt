@@ -35,27 +35,29 @@ sum-append [] ys i = omega arith
 sum-append (x ∷ xs) ys i = let e = sum-append xs ys i in omega arith
 
 module _ (N T : ℕ) (settings : paper.Settings N T) where
+  -- two runs that hold the sums of their tables, joined, hold the sums of all
+  module _ (a b : Joins Held) (left right : Told Held) (x : Joined N T a left) (y : Joined N T b right) (few : countOf a + countOf b ≤ mostColumns) where
+    pub join-sums : Joined N T (both a b) (next left (λ h. next right (λ k. join h k)))
+    join-sums = record {
+      held = heldIn (head.both (x .held .head) (y .held .head)) (joined (x .held) (y .held));
+      is = ap (λ (r : Told Held). next r (λ h. next right (λ k. join h k))) (x .is)
+          ∙ ap (λ (r : Told Held). next r (λ k. join (x .held) k)) (y .is)
+          ∙ join-done N T settings (x .held) (y .held) (x .right) (y .right) (omega (arith, x .counted, y .counted));
+      counted = ap₂ _+_ (x .counted) (y .counted);
+      right = joined-bounds N T settings (x .held) (y .held) (x .right) (y .right) (omega (arith, x .counted, y .counted));
+      sums = λ i l.
+          joined-cell N T settings (x .held) (y .held) (x .right) i l
+          ∙ ap₂ _+_ (x .sums i l) (y .sums i l)
+          ∙ sym (sum-append (buffersOf a) (buffersOf b) i);
+    }
+
   -- tables in bounds, joined in any order and bracketing, leave the sums, and never refuse within the limit
   pub joins-sum : (j : Joins Held) → TablesOf N T j → countOf j ≤ mostColumns → Joined N T j (joinHeld j)
   joins-sum (one h) b few = record { held = h; is = refl; counted = refl; right = b; sums = λ i l. omega arith }
-  joins-sum (both a b) w few = go (joins-sum a (w .0) (omega arith)) (joins-sum b (w .1) (omega arith))
-    where
-      go : Joined N T a (joinHeld a) → Joined N T b (joinHeld b) → Joined N T (both a b) (joinHeld (both a b))
-      go x y = record {
-        held = heldIn (head.both (x .held .head) (y .held .head)) (joined (x .held) (y .held));
-        is = ap (λ (r : Told Held). next r (λ h. next (joinHeld b) (λ k. join h k))) (x .is)
-            ∙ ap (λ (r : Told Held). next r (λ k. join (x .held) k)) (y .is)
-            ∙ join-done N T settings (x .held) (y .held) (x .right) (y .right) (omega (arith, x .counted, y .counted));
-        counted = ap₂ _+_ (x .counted) (y .counted);
-        right = joined-bounds N T settings (x .held) (y .held) (x .right) (y .right) (omega (arith, x .counted, y .counted));
-        sums = λ i l.
-            joined-cell N T settings (x .held) (y .held) (x .right) i l
-            ∙ ap₂ _+_ (x .sums i l) (y .sums i l)
-            ∙ sym (sum-append (buffersOf a) (buffersOf b) i);
-      }
+  joins-sum (both a b) w few = join-sums a b (joinHeld a) (joinHeld b) (joins-sum a (w .0) (omega arith)) (joins-sum b (w .1) (omega arith)) few
 
   -- and the same sentence holds of them, with the joined table for the plate's
-  pub tables-add-up : (bound : ℕ) (j : Joins Held) (whole : Joined N T j (joinHeld j)) (zs : List ℤ) → Admissible (ofTable N T (whole .held .buffer)) bound zs
+  pub tables-add-up : (bound : ℕ) (j : Joins Held) {run : Told Held} (whole : Joined N T j run) (zs : List ℤ) → Admissible (ofTable N T (whole .held .buffer)) bound zs
       → AddUp (ofTable N T (whole .held .buffer)) bound (count zs) (map (cellAt T) (buffersOf j))
   tables-add-up bound j whole zs a =
       adds-up (ofTable N T (whole .held .buffer)) (map (cellAt T) (buffersOf j)) bound zs (tables-divided N T (whole .held .buffer) (buffersOf j) (whole .sums)) a

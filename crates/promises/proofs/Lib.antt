@@ -17,5 +17,8 @@ pub mod Demands
 pub mod Filled
 pub mod Counts
 pub mod Planned
+pub mod SentBytes
+pub mod Sent
 pub mod Dealt
+pub mod Trips
 pub mod Mission

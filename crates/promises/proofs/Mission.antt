@@ -2,10 +2,7 @@
 -- bounds, so that it is planned and read back in the words of the columns. Assumes nothing.
 use Prim.Native.Nat.{ℕ, _≤_}
 use mathlib.Core.Path.{_≡_}
-use mathlib.Core.List.{List, Perm, Perm·symm}
-use native.Mathlib.Omega.{arith}
-use lib.ListN.{length}
-use Rattle.lists.proofs.Perm.{length-perm}
+use mathlib.Core.List.{List}
 use Rattle.paper.specs.Layer as paper
 use Rattle.paper.specs.Layer.{Column, ofColumns}
 use Rattle.paper.specs.Limits.{mostColumns}
@@ -16,9 +13,9 @@ use Rattle.promises.specs.Mission.{Mission}
 use Rattle.promises.specs.Groups.{GroupsJoin, TablesJoin}
 use Rattle.promises.specs.Jobs.{JobDecided}
 use Rattle.promises.specs.Plans.{Room, Plans}
-use Rattle.promises.specs.Runs.{Joins, Columns, Tabulated, Tabulates, countOf, TableOf, TablesOf}
+use Rattle.promises.specs.Runs.{Joins, Tabulated, Tabulates, countOf, TableOf, TablesOf}
 use Rattle.promises.specs.Ways.{WithinLimits, Way, added, dealt, runOf, PlansPlate, PlannedFrom}
-use Rattle.promises.proofs.Dealt.{columns-perm}
+use Rattle.promises.proofs.Dealt.{ordered, as-few}
 use Rattle.promises.proofs.Errors.{error-counts}
 use Rattle.promises.proofs.Files.{first-decides, end-decides, fault-place, file-tabulated}
 use Rattle.promises.proofs.Groups.{columns-add-up, joins-sum, tables-add-up}
@@ -41,17 +38,10 @@ job-decided most s byte = record {
 -- ---- demand 2, from the columns to the sequence
 
 module _ (N T : ℕ) (plate : List Column) (within : WithinLimits N T plate) where
-  -- in another order they are as many, and each is a column
-  ordered : (columns : List Column) → Perm columns plate → Columns N columns
-  ordered columns p = columns-perm N plate columns (Perm·symm p) (within .columns)
-
-  as-few : (columns : List Column) → Perm columns plate → length columns ≤ mostColumns
-  as-few columns p = let e = length-perm columns plate p in let f = within .few in omega arith
-
   -- each way leaves the plate's table
   tabulated : (way : Way N T plate) → Tabulates N T plate (runOf N T plate way)
-  tabulated (added columns lent p room) = tabulates N T (within .settings) columns plate lent p (ordered columns p) (as-few columns p) room
-  tabulated (dealt groups p room) = joins-tabulate N T (within .settings) groups plate p room (ordered _ p) (as-few _ p)
+  tabulated (added columns lent p room) = tabulates N T (within .settings) columns plate lent p (ordered N T plate within columns p) (as-few N T plate within columns p) room
+  tabulated (dealt groups p room) = joins-tabulate N T (within .settings) groups plate p room (ordered N T plate within _ p) (as-few N T plate within _ p)
 
   -- and it is planned and read back
   held-plans : (held : Held) → Tabulated N T plate held → PlansPlate N T plate held
@@ -75,7 +65,7 @@ module _ (N T : ℕ) (plate : List Column) (within : WithinLimits N T plate) whe
 
   groups-join : GroupsJoin N T plate
   groups-join = record {
-    joins = λ groups p room. joins-tabulate N T (within .settings) groups plate p room (ordered _ p) (as-few _ p);
+    joins = λ groups p room. joins-tabulate N T (within .settings) groups plate p room (ordered N T plate within _ p) (as-few N T plate within _ p);
     takes = λ rest gone whole group p a b. takes-rest N T (within .settings) rest gone plate whole group p a b (within .few);
     adds-up = λ groups p bound zs a. columns-add-up N T bound plate groups p zs a;
   }

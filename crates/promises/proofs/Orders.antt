@@ -1,18 +1,20 @@
 -- The numbers of each call's checks by computing them, and what a call answers by the first check that holds: its value where none does, and
 -- else a refusal by that check's number, which is one of the list's. Assumes nothing.
-use mathlib.Core.Path.{_≡_, refl, sym, ap, subst}
+use mathlib.Core.Path.{_≡_, refl, sym, ap, ap₂, subst, _∙_}
 use mathlib.Core.Logic.{_⊎_, inl, inr}
 use mathlib.Core.Bool.{Bool, true, false, cond, _||_}
-use mathlib.Core.List.{List, [], _∷_}
+use mathlib.Core.List.{List, [], _∷_, _++_}
 use mathlib.Core.Option.{Option, none, some}
-use Prim.Native.Nat.{ℕ}
+use Prim.Native.Nat.{ℕ, zero, suc}
 use native.Mathlib.Omega.{arith}
 use borrow.Author.Tests.{eq-eqb}
 use lib.Dec.{eqb}
 use Rattle.lists.specs.Checks.{Check, first}
 use Rattle.plate.specs.Call.{Call}
+use Rattle.plate.specs.Head.{heldIn}
 use Rattle.plate.specs.Refusal.{Told, done, refused, Numbered, toldBy, decided}
 use Rattle.plate.specs.Settings.{settingsChecks}
+use Rattle.plate.specs.declared.head.Head.{Head}
 use Rattle.column.specs.Order.{columnChecks}
 use Rattle.column.specs.Picture.{layerChecks, pictureChecks, pictureAnswer}
 use Rattle.motor.specs.Height.{heightChecks}
@@ -22,6 +24,7 @@ use Rattle.joining.specs.Joining.{differ, pairChecks, outChecks, restChecks, bo
 use Rattle.plan.specs.Plan.{planRest, planning}
 use Rattle.readback.specs.Reading.{sizeChecks, entryChecks, reading}
 use Rattle.recount.specs.Recount.{sequenceChecks, recounting}
+use Rattle.record.specs.Frame.{lengthAt, kindAt}
 use Rattle.record.specs.Faults.{tail, frameChecks}
 use Rattle.job.specs.Record.{bodyChecks, kindChecks, recordKind, recordChecks, readingAt}
 use Rattle.job.specs.File.{Job}
@@ -30,7 +33,12 @@ use Rattle.job.specs.declared.Kind.the-variants as kind
 use Rattle.job.specs.declared.State.{State}
 use Rattle.load.specs.Load.{loading}
 use Rattle.save.specs.Writing.{countChecks, runChecks, writing, sizeAnswer}
-use Rattle.promises.specs.Orders.{numbers, isOneOf, ByLine, CallByLine, bodyLine, recordLine, fileLine, Orders}
+use Rattle.sent.specs.Kinds.{endKind, allowedAfter, fits}
+use Rattle.sent.specs.Written.{rowsOf}
+use Rattle.sent.specs.File.{headIn, openingChecks, rowPlace, rowChecks, endChecks, recordChecks as behindChecks, rowsChecks, fileChecks}
+use Rattle.send.specs.Sending.{noRoom, sending}
+use Rattle.receive.specs.Receiving.{receiving}
+use Rattle.promises.specs.Orders.{numbers, isOneOf, ByLine, CallByLine, bodyLine, recordLine, fileLine, openingLine, behindLine, rowsLine, tableLine, Orders}
 use Rattle.promises.proofs.Refusals.{record-told}
 
 -- what the first check that holds says has one of the numbers
@@ -83,8 +91,45 @@ unfolding loading short
 file-numbers lent (done job) = refl
 file-numbers lent (refused number place) = refl
 
+-- those of a table file, record after record
+numbers-append : (cs ds : List (Check Numbered)) → numbers (cs ++ ds) ≡ numbers cs ++ numbers ds
+numbers-append [] ds = refl
+numbers-append (c ∷ cs) ds = ap (λ (l : List ℕ). c .says .number ∷ l) (numbers-append cs ds)
+
+opening-numbers : (file : List ℕ) → numbers (openingChecks file) ≡ openingLine
+unfolding openingChecks frameChecks settingsChecks
+opening-numbers file = refl
+
+behind-numbers : (file : List ℕ) (head : Head) (left r : ℕ)
+    → numbers (behindChecks file head left r) ≡ behindLine (eqb (kindAt file (rowPlace (head .members) r)) endKind)
+unfolding behindChecks frameChecks endChecks rowChecks
+behind-numbers file head left r = go (eqb (kindAt file at) endKind)
+  where
+    at : ℕ
+    at = rowPlace (head .members) r
+
+    go : (end : Bool) → numbers (frameChecks file at (allowedAfter r (kindAt file at)) (fits (head .members) (kindAt file at) (lengthAt file at))
+        ++ cond end (endChecks file head left r) (rowChecks file head left r)) ≡ behindLine end
+    go true = refl
+    go false = refl
+
+rows-numbers : (file : List ℕ) (head : Head) (left r : ℕ) → numbers (rowsChecks file head left r) ≡ rowsLine file (head .members) left r
+unfolding rowsChecks
+rows-numbers file head zero r = behind-numbers file head 0 r
+rows-numbers file head (suc left) r =
+    numbers-append (behindChecks file head (suc left) r) (rowsChecks file head left (suc r))
+    ∙ ap₂ (λ (l m : List ℕ). l ++ m) (behind-numbers file head (suc left) r) (rows-numbers file head left (suc r))
+
+table-numbers : (file lent : List ℕ) → numbers (receiving file lent .checks) ≡ tableLine file
+unfolding receiving fileChecks short
+table-numbers file lent =
+    let head = headIn file in
+    let rows = rowsChecks file head (rowsOf head) 0 in
+    numbers-append (openingChecks file ++ rows) (short (heldIn head lent) 1 ∷ [])
+    ∙ ap (λ (l : List ℕ). l ++ (3 ∷ [])) (numbers-append (openingChecks file) rows ∙ ap₂ (λ (l m : List ℕ). l ++ m) (opening-numbers file) (rows-numbers file head (rowsOf head) 0))
+
 pub orders : Orders
-unfolding writing sizeAnswer countChecks runChecks clearing adding joining taking planning reading recounting pictureAnswer pictureChecks layerChecks settingsChecks columnChecks short outCell boundChecks tableRest tableChecks overfullCell addRest differ pairChecks outChecks restChecks bothChecks partChecks planRest sizeChecks entryChecks sequenceChecks
+unfolding sending noRoom writing sizeAnswer countChecks runChecks clearing adding joining taking planning reading recounting pictureAnswer pictureChecks layerChecks settingsChecks columnChecks short outCell boundChecks tableRest tableChecks overfullCell addRest differ pairChecks outChecks restChecks bothChecks partChecks planRest sizeChecks entryChecks sequenceChecks
 orders = record {
   clear = λ N T table. call-by-line (clearing N T table) _ refl;
   add = λ held column. call-by-line (adding held column) _ refl;
@@ -99,4 +144,6 @@ orders = record {
   write-job = λ N T bound run counts out. call-by-line (writing N T bound run counts out) _ refl;
   job-size = λ counts. by-line (countChecks counts) _ _ refl;
   read-file = λ lent file. call-by-line (loading lent file) (fileLine file) (file-numbers lent file);
+  write-table = λ held out. call-by-line (sending held out) _ refl;
+  read-table = λ file lent. call-by-line (receiving file lent) (tableLine file) (table-numbers file lent);
 }

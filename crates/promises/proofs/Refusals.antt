@@ -20,6 +20,8 @@ use Rattle.job.specs.Record.{Reading, moved, readingAt, recordChecks, readRecor
 use Rattle.job.specs.declared.State.{State}
 use Rattle.load.specs.Load.{loading}
 use Rattle.save.specs.Writing.{countChecks, writing, sizeAnswer}
+use Rattle.send.specs.Sending.{sending}
+use Rattle.receive.specs.Receiving.{receiving}
 use Rattle.promises.specs.Refusals.{Refusals}
 
 moved-told : (st : State) (at : ℕ) (o : Option Numbered) (r : Reading) → moved st at (toldBy o r) .told ≡ toldBy o (r .what)
@@ -46,4 +48,6 @@ refusals = record {
   write-job = λ N T bound run counts out. exactly (writing N T bound run counts out);
   job-size = λ counts. refused-exactly (countChecks counts) _;
   read-file = λ lent file. exactly (loading lent file);
+  write-table = λ held out. exactly (sending held out);
+  read-table = λ file lent. exactly (receiving file lent);
 }

@@ -92,13 +92,13 @@ tabulated-perm N T xs ys h p t = record {
   goes = t .goes ∙ head-perm N T xs ys p;
 }
 
-tabulates-perm : (N T : ℕ) (xs ys : List Column) (run : Told Held) → Perm xs ys → Tabulates N T xs run → Tabulates N T ys run
+pub tabulates-perm : (N T : ℕ) (xs ys : List Column) (run : Told Held) → Perm xs ys → Tabulates N T xs run → Tabulates N T ys run
 tabulates-perm N T xs ys run p t = record { held = t .held; is = t .is; right = tabulated-perm N T xs ys (t .held) p (t .right) }
 
 perm-nil : (xs : List Column) → Perm (xs ++ []) xs
 perm-nil xs = subst (λ (l : List Column). Perm (xs ++ []) l) (append-nil xs) (Perm·refl (xs ++ []))
 
-columns-append : (N : ℕ) (xs ys : List Column) → Columns N (xs ++ ys) → Columns N xs × Columns N ys
+pub columns-append : (N : ℕ) (xs ys : List Column) → Columns N (xs ++ ys) → Columns N xs × Columns N ys
 columns-append N [] ys c = (tt, c)
 columns-append N (x ∷ xs) ys c = let r = columns-append N xs ys (c .1) in ((c .0, r .0), r .1)
 
@@ -171,7 +171,7 @@ module _ (N T : ℕ) (settings : paper.Settings N T) where
   made-fine : (h : Held) → TableOf N T h → first (headChecks (h .head)) ≡ none
   made-fine h a = rw (a .height, a .members) fine
 
-  cells-of : (h : Held) → TableOf N T h → head.cellsOf (h .head) ≡ cells N T
+  pub cells-of : (h : Held) → TableOf N T h → head.cellsOf (h .head) ≡ cells N T
   cells-of h a = ap₂ cells (a .height) (a .members)
 
   pub join-done : (h k : Held) → TableOf N T h → TableOf N T k → h .head .columns + k .head .columns ≤ mostColumns
@@ -297,18 +297,19 @@ module _ (N T : ℕ) (settings : paper.Settings N T) where
       tabulates-perm N T (columns ++ []) plate _ (Perm·trans (perm-nil columns) p)
       (add-all columns [] (clear N T lent) (clear-tabulates lent room) order (omega arith))
 
+  pub join-held : (xs ys : List Column) (left right : Told Held) → Tabulates N T xs left → Tabulates N T ys right → length (xs ++ ys) ≤ mostColumns
+      → Tabulates N T (xs ++ ys) (next left (λ h. next right (λ k. join h k)))
+  join-held xs ys left right x y few =
+      subst (λ (r : Told Held). Tabulates N T (xs ++ ys) (next r (λ h. next right (λ k. join h k)))) (sym (x .is))
+      (subst (λ (r : Told Held). Tabulates N T (xs ++ ys) (next r (λ k. join (x .held) k))) (sym (y .is))
+      (join-tabulates xs ys (x .held) (y .held) (x .right) (y .right) few))
+
   join-all : (j : Joins Group) → LentEnough N T j → Columns N (columnsOf j) → length (columnsOf j) ≤ mostColumns → Tabulates N T (columnsOf j) (joinAll N T j)
   join-all (one g) room order few = tabulates (g .columns) (g .columns) (g .lent) (Perm·refl (g .columns)) order few room
   join-all (both a b) room order few =
       let n = length-append (columnsOf a) (columnsOf b) in
       let o = columns-append N (columnsOf a) (columnsOf b) order in
-      go (join-all a (room .0) (o .0) (omega arith)) (join-all b (room .1) (o .1) (omega arith))
-    where
-      go : Tabulates N T (columnsOf a) (joinAll N T a) → Tabulates N T (columnsOf b) (joinAll N T b) → Tabulates N T (columnsOf a ++ columnsOf b) (joinAll N T (both a b))
-      go x y =
-          subst (λ (r : Told Held). Tabulates N T (columnsOf a ++ columnsOf b) (next r (λ h. next (joinAll N T b) (λ k. join h k)))) (sym (x .is))
-          (subst (λ (r : Told Held). Tabulates N T (columnsOf a ++ columnsOf b) (next r (λ k. join (x .held) k))) (sym (y .is))
-          (join-tabulates (columnsOf a) (columnsOf b) (x .held) (y .held) (x .right) (y .right) few))
+      join-held (columnsOf a) (columnsOf b) (joinAll N T a) (joinAll N T b) (join-all a (room .0) (o .0) (omega arith)) (join-all b (room .1) (o .1) (omega arith)) few
 
   -- the tables of any dealing of the columns into groups, joined in any order and bracketing, are the plate's table
   pub joins-tabulate : (j : Joins Group) (plate : List Column) → Perm (columnsOf j) plate → LentEnough N T j → Columns N (columnsOf j)

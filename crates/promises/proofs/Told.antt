@@ -38,6 +38,8 @@ use Rattle.load.specs.Load.{toldLoad, loading}
 use Rattle.load.specs.declared.Loaded.{Loaded}
 use Rattle.load.specs.declared.Loaded.the-variants as loaded
 use Rattle.save.specs.Writing.{writing}
+use Rattle.send.specs.Sending.{sending}
+use Rattle.receive.specs.Receiving.{receiving}
 use Rattle.promises.specs.Told.{Only, Unwritten, Unmoved}
 
 -- a refusal is known by its number and place
@@ -126,6 +128,8 @@ unwritten = record {
   read-back = λ N T errors thicknesses n out. keeps (reading N T errors thicknesses n out);
   write-job = λ N T bound run counts out. keeps (writing N T bound run counts out);
   read-file = λ lent file. keeps (loading lent file);
+  write-table = λ held out. keeps (sending held out);
+  read-table = λ file lent. keeps (receiving file lent);
 }
 
 -- a refusal moves nothing

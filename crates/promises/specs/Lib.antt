@@ -9,6 +9,8 @@ pub mod Told
 pub mod Files
 pub mod Jobs
 pub mod Saved
+pub mod Sent
 pub mod Groups
 pub mod Ways
+pub mod Trips
 pub mod Mission

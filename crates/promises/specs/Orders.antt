@@ -1,11 +1,11 @@
 -- Document 01, 'What comes back', line by line: 'Clear a table: 1, 2, 3' and so on. The numbers of each call's checks, in the order in which they
 -- are asked, are those of its line; and every input gets an answer, the call's value or a refusal by one of those numbers. The calls that document
 -- 02 adds have its lines. Assumes nothing.
-use Prim.Native.Nat.{ℕ}
+use Prim.Native.Nat.{ℕ, zero, suc}
 use mathlib.Core.Path.{_≡_}
 use mathlib.Core.Logic.{_⊎_}
 use mathlib.Core.Bool.{Bool, true, false, _||_}
-use mathlib.Core.List.{List, [], _∷_}
+use mathlib.Core.List.{List, [], _∷_, _++_}
 use lib.Dec.{eqb}
 use lib.IntN.{ℤ, pos, _*ℤ_}
 use Rattle.lists.specs.Checks.{Check}
@@ -22,6 +22,7 @@ use Rattle.joining.specs.Joining.{joining, taking}
 use Rattle.plan.specs.Plan.{Sheets, planning}
 use Rattle.readback.specs.Reading.{reading}
 use Rattle.recount.specs.Recount.{recounting}
+use Rattle.record.specs.Frame.{kindAt}
 use Rattle.job.specs.Record.{recordKind, recordChecks, readingAt, readRecord}
 use Rattle.job.specs.File.{Job}
 use Rattle.job.specs.declared.Kind.{Kind}
@@ -30,6 +31,11 @@ use Rattle.job.specs.declared.State.{State}
 use Rattle.load.specs.Load.{loading}
 use Rattle.save.specs.Runs.{fileSize}
 use Rattle.save.specs.Writing.{countChecks, writing, sizeAnswer}
+use Rattle.sent.specs.Kinds.{endKind}
+use Rattle.sent.specs.Written.{rowsOf}
+use Rattle.sent.specs.File.{headIn, rowPlace}
+use Rattle.send.specs.Sending.{sending}
+use Rattle.receive.specs.Receiving.{receiving}
 
 -- the numbers of some checks, in their order
 abbrev pub numbers : List (Check Numbered) → List ℕ
@@ -68,6 +74,24 @@ abbrev pub fileLine : Told Job → List ℕ
 fileLine (done job) = 3 ∷ []
 fileLine (refused number place) = number ∷ []
 
+-- document 02 c), 'Refusals of the reader: 16 by record as in the job file, then 1, 2, 7 and 6 as they apply': the record that opens a table file
+abbrev pub openingLine : List ℕ
+openingLine = 16 ∷ 16 ∷ 16 ∷ 16 ∷ 1 ∷ 2 ∷ 7 ∷ []
+
+-- a record behind it, by whether it is the end: its number of rows and then bytes after it; of a row its start and then its cells
+abbrev pub behindLine : Bool → List ℕ
+behindLine true = 16 ∷ 16 ∷ 16 ∷ 16 ∷ 16 ∷ 16 ∷ []
+behindLine false = 16 ∷ 16 ∷ 16 ∷ 16 ∷ 16 ∷ 6 ∷ []
+
+-- the records from row r on, so many rows being left, and the one behind the last row
+abbrev pub rowsLine : List ℕ → ℕ → ℕ → ℕ → List ℕ
+rowsLine file T zero r = behindLine (eqb (kindAt file (rowPlace T r)) endKind)
+rowsLine file T (suc left) r = behindLine (eqb (kindAt file (rowPlace T r)) endKind) ++ rowsLine file T left (suc r)
+
+-- 'after the whole file 3 for the lent table'
+abbrev pub tableLine : List ℕ → List ℕ
+tableLine file = (openingLine ++ rowsLine file (headIn file .members) (rowsOf (headIn file)) 0) ++ (3 ∷ [])
+
 pub record Orders : Type 0 where
   pub clear : (N T : ℕ) (table : List ℕ) → CallByLine (clearing N T table) (1 ∷ 2 ∷ 3 ∷ [])
   pub add : (held : Held) (column : Column) → CallByLine (adding held column) (1 ∷ 2 ∷ 3 ∷ 7 ∷ 4 ∷ 5 ∷ 6 ∷ [])
@@ -85,3 +109,5 @@ pub record Orders : Type 0 where
   pub write-job : (N T bound : ℕ) (run counts out : List ℕ) → CallByLine (writing N T bound run counts out) (1 ∷ 2 ∷ 7 ∷ 4 ∷ 3 ∷ 5 ∷ 3 ∷ [])
   pub job-size : (counts : List ℕ) → ByLine (sizeAnswer counts) (countChecks counts) (fileSize counts) (7 ∷ 4 ∷ [])
   pub read-file : (lent : List ℕ) (file : Told Job) → CallByLine (loading lent file) (fileLine file)
+  pub write-table : (held : Held) (out : List ℕ) → CallByLine (sending held out) (1 ∷ 2 ∷ 3 ∷ 7 ∷ 6 ∷ 3 ∷ [])
+  pub read-table : (file lent : List ℕ) → CallByLine (receiving file lent) (tableLine file)

@@ -23,6 +23,8 @@ use Rattle.job.specs.File.{Job}
 use Rattle.job.specs.declared.State.{State}
 use Rattle.load.specs.Load.{loading}
 use Rattle.save.specs.Writing.{countChecks, writing, sizeAnswer}
+use Rattle.send.specs.Sending.{sending}
+use Rattle.receive.specs.Receiving.{receiving}
 
 -- an answer is a refusal exactly when one of these checks holds and none before it
 abbrev pub Exactly : {X : Type 0} → Told X → List (Check Numbered) → Type 0
@@ -46,3 +48,5 @@ pub record Refusals : Type 0 where
   pub write-job : (N T bound : ℕ) (run counts out : List ℕ) → ByItsList (writing N T bound run counts out)
   pub job-size : (counts : List ℕ) → Exactly (sizeAnswer counts) (countChecks counts)
   pub read-file : (lent : List ℕ) (file : Told Job) → ByItsList (loading lent file)
+  pub write-table : (held : Held) (out : List ℕ) → ByItsList (sending held out)
+  pub read-table : (file lent : List ℕ) → ByItsList (receiving file lent)

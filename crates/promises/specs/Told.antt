@@ -30,6 +30,8 @@ use Rattle.job.specs.declared.Step.{Step}
 use Rattle.load.specs.Load.{toldLoad, loading}
 use Rattle.load.specs.declared.Loaded.{Loaded}
 use Rattle.save.specs.Writing.{writing}
+use Rattle.send.specs.Sending.{sending}
+use Rattle.receive.specs.Receiving.{receiving}
 
 -- an answer is the only one that tells what it tells, so a contract about what is told leaves one answer
 pub record Only : Type 0 where
@@ -56,6 +58,8 @@ pub record Unwritten : Type 0 where
   pub read-back : (N T : ℕ) (errors thicknesses : List ℕ) (n : ℕ) (out : List ℤ) → Keeps (reading N T errors thicknesses n out)
   pub write-job : (N T bound : ℕ) (run counts out : List ℕ) → Keeps (writing N T bound run counts out)
   pub read-file : (lent : List ℕ) (file : Told Job) → Keeps (loading lent file)
+  pub write-table : (held : Held) (out : List ℕ) → Keeps (sending held out)
+  pub read-table : (file lent : List ℕ) → Keeps (receiving file lent)
 
 -- a read that is refused moves neither the place nor the state
 abbrev pub Unmoved : Type 0
