@@ -1,5 +1,5 @@
 """Plans document 01's plate through the library by ctypes, and prints what the planning program prints for it. Then saves the plate, and reads it
-again.
+again; and sends its table, and receives it again.
 
 usage: plate.py PATH-OF-libshagorent.so
 """
@@ -7,9 +7,10 @@ import ctypes as c
 import pathlib
 import sys
 
-VERSION = 40200
+VERSION = 40300
 """Of the header that these declarations follow."""
 COLUMNS = (1, 4), (0, 3)
+TABLE_FILE_MAX = 76936
 
 
 class Head(c.Structure):
@@ -56,14 +57,28 @@ def save(library, height, set_, bound, table):
     assert list(again) == list(table)
 
 
+def send(library, head, table):
+    """The bytes sent must be those of document 02's table file, and what is received from them the table and the head that they were sent from."""
+    file = (c.c_uint8 * TABLE_FILE_MAX)()
+    sent = library.shagorent_write_table(*lent(table), head, *lent(file))
+    assert sent.number == 0, (sent.number, sent.value)
+    assert bytes(file[:sent.value]) == pathlib.Path(__file__).with_name("plate.table").read_bytes(), bytes(file[:sent.value]).hex()
+
+    again = (c.c_uint32 * len(table))()
+    received = library.shagorent_read_table(file, c.c_size_t(sent.value), *lent(again))
+    assert received.number == 0, (received.number, received.place)
+    assert bytes(received.head) == bytes(head)
+    assert list(again) == list(table)
+
+
 def main():
     library = c.CDLL(sys.argv[1])
     library.shagorent_version.restype = c.c_uint32
     assert library.shagorent_version() == VERSION, library.shagorent_version()
-    for call in (library.shagorent_clear_table, library.shagorent_add_column):
+    for call in (library.shagorent_clear_table, library.shagorent_add_column, library.shagorent_read_table):
         call.restype = TableReply
     for call in (library.shagorent_cells, library.shagorent_entries, library.shagorent_counts, library.shagorent_plan, library.shagorent_read_back,
-                 library.shagorent_job_size, library.shagorent_write_job):
+                 library.shagorent_job_size, library.shagorent_write_job, library.shagorent_write_table):
         call.restype = Reply
     library.shagorent_read_job.restype = JobReply
     height, set_, no_bound = number(4), number(6), number(2**32 - 1)
@@ -85,6 +100,7 @@ def main():
         assert read.number in (0, 11), (read.number, read.value)
         print(n, *((read.value, *sequence) if read.number == 0 else ("none",)))
     save(library, height, set_, no_bound, table)
+    send(library, made.head, table)
 
 
 if __name__ == "__main__":

@@ -1,4 +1,5 @@
-// Plans document 01's plate through the library, and prints what the planning program prints for it. Then saves the plate, and reads it again.
+// Plans document 01's plate through the library, and prints what the planning program prints for it. Then saves the plate, and reads it again;
+// and sends its table, and receives it again.
 #[repr(C)]
 #[derive(Clone, Copy, Debug, PartialEq)]
 struct Head {
@@ -42,11 +43,14 @@ extern "C" {
     fn shagorent_write_job(height: u32, set: u32, bound: u32, boundaries: *const u16, length: usize,
         counts: *const u16, columns: usize, out: *mut u8, room: usize) -> Reply;
     fn shagorent_read_job(input: *const u8, length: usize, most: usize, table: *mut u32, cells: usize) -> JobReply;
+    fn shagorent_write_table(table: *const u32, cells: usize, head: Head, out: *mut u8, room: usize) -> Reply;
+    fn shagorent_read_table(input: *const u8, length: usize, table: *mut u32, cells: usize) -> TableReply;
 }
 
 // The version of the header that these declarations follow.
-const VERSION: u32 = 40200;
+const VERSION: u32 = 40300;
 const NO_SEQUENCE: u32 = 11;
+const TABLE_FILE_MAX: usize = 76936;
 const COLUMNS: [[u16; 2]; 2] = [[1, 4], [0, 3]];
 
 fn main() {
@@ -77,6 +81,7 @@ fn main() {
         }
     }
     save(&table, made.head);
+    send(&table, made.head);
 }
 
 // The bytes saved must be those of document 01's file, and what is read from them the table and the head that they were saved from.
@@ -95,5 +100,19 @@ fn save(table: &[u32], head: Head) {
     let mut again = vec![0; table.len()];
     let read = unsafe { shagorent_read_job(file.as_ptr(), file.len(), usize::MAX, again.as_mut_ptr(), again.len()) };
     assert_eq!((read.number, read.place, read.head, read.bound), (0, 0, head, u32::MAX));
+    assert_eq!(again, table);
+}
+
+// The bytes sent must be those of document 02's table file, and what is received from them the table and the head that they were sent from.
+fn send(table: &[u32], head: Head) {
+    let mut file = vec![0; TABLE_FILE_MAX];
+    let sent = unsafe { shagorent_write_table(table.as_ptr(), table.len(), head, file.as_mut_ptr(), file.len()) };
+    assert_eq!(sent.number, 0);
+    file.truncate(sent.value as usize);
+    assert_eq!(file, include_bytes!("plate.table"));
+
+    let mut again = vec![0; table.len()];
+    let received = unsafe { shagorent_read_table(file.as_ptr(), file.len(), again.as_mut_ptr(), again.len()) };
+    assert_eq!((received.number, received.place, received.head), (0, 0, head));
     assert_eq!(again, table);
 }

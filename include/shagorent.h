@@ -30,7 +30,7 @@ extern "C" {
  * minor version has more functions, or a rule that moved, as its changelog tells. `shagorent_version` answers the library's own, in the form of
  * SHAGORENT_VERSION: ask once that the two agree. */
 #define SHAGORENT_VERSION_MAJOR 4u
-#define SHAGORENT_VERSION_MINOR 2u
+#define SHAGORENT_VERSION_MINOR 3u
 #define SHAGORENT_VERSION_PATCH 0u
 #define SHAGORENT_VERSION (SHAGORENT_VERSION_MAJOR * 10000u + SHAGORENT_VERSION_MINOR * 100u + SHAGORENT_VERSION_PATCH)
 
@@ -43,6 +43,8 @@ extern "C" {
 #define SHAGORENT_MOST_CELLS 18368u       /* of any table */
 #define SHAGORENT_MOST_ENTRIES 294975u    /* of any sheet */
 #define SHAGORENT_MOST_COUNTS 512u        /* of any plan */
+#define SHAGORENT_TABLE_CELLS_MAX 18368u  /* of the table of any table file, SHAGORENT_MOST_CELLS */
+#define SHAGORENT_TABLE_FILE_MAX 76936u   /* bytes of any table file */
 #define SHAGORENT_LEAST_STEP 1u           /* of a motor, in eighths of a micrometre */
 #define SHAGORENT_GREATEST_STEP 8192u
 #define SHAGORENT_LOWEST_BOUNDARY (-31)   /* that a motor can be sent to */
@@ -57,7 +59,7 @@ extern "C" {
 #define SHAGORENT_SHORT_BUFFER 3u    /* a lent buffer shorter than stated; which, from 1, of those with a stated length, in the order of the parameters */
 #define SHAGORENT_BOUNDARY_COUNT 4u  /* an odd number of boundaries, or more than 64; the number, in writing a job the column */
 #define SHAGORENT_BOUNDARY 5u        /* a boundary above the height, or not above the one before; the first such index, in writing a job the column */
-#define SHAGORENT_CELL 6u            /* a cell out of bounds for the table's column count; the lowest such index */
+#define SHAGORENT_CELL 6u            /* a cell out of bounds for the table's column count; the lowest such index, in reading a table file the row's first byte */
 #define SHAGORENT_COLUMNS 7u         /* columns beyond 1,000,000; 0 */
 #define SHAGORENT_SETTINGS 8u        /* two tables' settings differ; 0 */
 #define SHAGORENT_NOT_A_PART 9u      /* the second table is not a part of the first; 0 by its count, else the lowest such cell */
@@ -67,7 +69,7 @@ extern "C" {
 #define SHAGORENT_NOT_ADMISSIBLE 13u /* a sequence or a layer that is not admissible; the lowest index at fault */
 #define SHAGORENT_STEP 14u           /* step outside 1 to 8,192; 0 */
 #define SHAGORENT_MOTOR_BOUNDARY 15u /* boundary outside -31 to 543; 0 */
-#define SHAGORENT_MALFORMED 16u      /* a malformed job file; the first byte of the record at fault, or of what stands after the end */
+#define SHAGORENT_MALFORMED 16u      /* a malformed job or table file; the first byte of the record at fault, or of what stands after the end */
 #define SHAGORENT_TOO_LARGE 17u      /* a job too large for the caller; the first byte of its settings record */
 
 typedef struct {
@@ -76,7 +78,7 @@ typedef struct {
 } shagorent_reply;
 
 /* What goes with a table: the settings that it was made for, and its column count. The caller keeps it beside the table: clearing a table or
- * reading a job into it answers the first, every other call on a table takes it by value straight after the table's length, and each that
+ * reading a job or a table file into it answers the first, every other call on a table takes it by value straight after the table's length, and each that
  * changes the table answers the next. */
 typedef struct {
     uint32_t height;
@@ -208,6 +210,25 @@ shagorent_reply shagorent_job_size(const uint16_t *counts, size_t counts_length)
  * The planning program, `plan`, takes files of up to 4,096 bytes only. */
 shagorent_reply shagorent_write_job(uint32_t height, uint32_t set, uint32_t bound, const uint16_t *boundaries, size_t boundaries_length,
                                     const uint16_t *counts, size_t counts_length, uint8_t *out, size_t out_length);
+
+/* ---- Table files, for plates that are tabulated on several machines: each sends its table, and one of them joins and plans. A table that was
+ * sent is as good as if it had stayed where it was made: the same cells, the same head.
+ *
+ * A table file is records like a job file's. One of kind 16 comes first: the height (2 bytes), the set (4), the column count (4). Then a row for
+ * each start from -(tmax-1) to N+tmax-2, rising, none left out, kind 17: the start (2, signed, two's complement), its cells of thickness 1 to
+ * tmax (4 each). Then one of kind 18: the number of rows, N + 2*tmax - 2 (2 bytes); and then nothing. There are no remarks. Its length is
+ * 20 + (N + 2*tmax - 2) * (6 + 4*tmax), at most SHAGORENT_TABLE_FILE_MAX. */
+
+/* Writes a table as a table file. Cells past the table's size are not looked at; bytes of `out` past the file stay as they were. Answers the file's
+ * length. Refusals 1, 2, 3 (at 1: the table), 7, 6 (at the lowest cell), 3 (at 2: `out` is shorter than the file). */
+shagorent_reply shagorent_write_table(const uint32_t *table, size_t table_length, shagorent_head head, uint8_t *out, size_t out_length);
+
+/* Reads a whole table file into a table, whose cells it replaces; SHAGORENT_TABLE_CELLS_MAX are enough for any. Cells past the table's size stay as
+ * they were. Answers what goes with the table. A file in bounds whose cells no columns give is read too, and can be joined and planned.
+ * Refusals of the file, in its own order: 16 by record, 1, 2, 7 at the first record, 6 at a row; then 3, at place 1. Whichever refusal of the
+ * file it is, its place is the first byte of the record at fault, and for bytes after the end record the first of them. The file is judged whole
+ * before the table is written. */
+shagorent_table_reply shagorent_read_table(const uint8_t *input, size_t input_length, uint32_t *table, size_t table_length);
 
 #ifdef __cplusplus
 }

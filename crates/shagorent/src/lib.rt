@@ -17,6 +17,8 @@ ghost use Rattle.readback.specs.Reading.{reading};
 ghost use Rattle.recount.specs.Recount.{recounting};
 ghost use Rattle.load.specs.Load.{jobOf, loading};
 ghost use Rattle.save.specs.Writing.{writing, sizeAnswer};
+ghost use Rattle.send.specs.Sending.{sending};
+ghost use Rattle.receive.specs.Receiving.{receiving};
 ghost use Rattle.shagorent.specs.Version.{version};
 ghost use Rattle.replies.specs.Replies.{Replies, reply, tableReply, pictureReply, heightReply, jobReply};
 use adding::add_column;
@@ -30,6 +32,7 @@ use plate::head::Head;
 use plate::settings::Made;
 use plate::settings::Settings;
 use readback::read_back;
+use receive::read_table;
 use recount::recount;
 use replies::HeightReply;
 use replies::JobReply;
@@ -45,6 +48,7 @@ use replies::size_reply;
 use replies::table_reply;
 use save::job_size;
 use save::write_job;
+use send::write_table;
 use table::clear_table;
 
 // The version of these calls, as SHAGORENT_VERSION of include/shagorent.h.
@@ -52,10 +56,10 @@ use table::clear_table;
 pub extern "C" fn shagorent_version() -> u32
     ensures { λ r. ⌜ r ≡ version ⌝ }
 {
-    40200
+    40300
 }
 
-// ---- tables, plans, pictures, motors and jobs
+// ---- tables, plans, pictures, motors, jobs and table files
 
 #[no_mangle]
 pub extern "C" fn shagorent_clear_table(table: &mut [u32], height: u32, members: u32) -> TableReply
@@ -174,6 +178,20 @@ pub extern "C" fn shagorent_write_job(
     ensures { λ r. ⌜ Replies reply (writing height members bound (now (boundaries .entry)) (now (counts .entry)) (now (out .entry))) r (now (out .exit)) ⌝ }
 {
     reply_of(write_job(height, members, bound, boundaries, counts, out))
+}
+
+#[no_mangle]
+pub extern "C" fn shagorent_write_table(table: &[u32], head: Head, out: &mut [u8]) -> Reply
+    ensures { λ r. ⌜ Replies reply (sending (heldIn head (now (table .entry))) (now (out .entry))) r (now (out .exit)) ⌝ }
+{
+    reply_of(write_table(table, head, out))
+}
+
+#[no_mangle]
+pub extern "C" fn shagorent_read_table(input: &[u8], table: &mut [u32]) -> TableReply
+    ensures { λ r. ⌜ Replies tableReply (receiving (now (input .entry)) (now (table .entry))) r (now (table .exit)) ⌝ }
+{
+    table_reply(read_table(input, table))
 }
 
 // ---- sizes, for buffers to be lent: of a job file; of a table, of a sheet, and the greatest count, or refusals 1 and 2
