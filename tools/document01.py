@@ -1,8 +1,8 @@
 """Document 01 in plain Python, and the requests of document 02 that have landed: an independent reading, in the documents' own order and words.
 
-What the trial programs must print is made from here, by expected-calls, expected-records, expected-saves and expected-jobs. Nothing is taken
-from the library's sources. Voxels are counted one by one, the sequences of a small plate are listed and judged by the definition, and a call asks its
-refusals one after the other in the order that the document names them.
+What the trial programs must print is made from here, by expected-calls, expected-records, expected-saves, expected-tables and expected-jobs.
+Nothing is taken from the library's sources. Voxels are counted one by one, the sequences of a small plate are listed and judged by the definition,
+and a call asks its refusals one after the other in the order that the document names them.
 
 A rule that a request of document 02 moves stands in one place: M in `greatest_count`, what is admissible in `may_start`, `may_end`,
 `may_end_first`, `may_start_last` and `is_layer`, what goes with a table in `Head`, the number of each fault of a file in `FAULTS`.
@@ -187,9 +187,14 @@ def table_of(plate, columns):
     return cells
 
 
+def limit_of(plate, head, t):
+    """The greatest number that a cell of this thickness may hold."""
+    return head.limit(t) if t in plate.thicknesses else 0
+
+
 def bounds(plate, head):
     """The greatest number that each cell may hold."""
-    return [head.limit(t) if t in plate.thicknesses else 0 for _, t in plate.cells]
+    return [limit_of(plate, head, t) for _, t in plate.cells]
 
 
 # ---- Sequence
@@ -454,9 +459,10 @@ def motor_height(step, z):
 # ---- Job file: one record
 
 
-FAULTS = {"cut": 16, "kind": 16, "length": 16, "body": 16, "unequal": 16, "tail": 16}
+FAULTS = {"cut": 16, "kind": 16, "length": 16, "body": 16, "unequal": 16, "tail": 16, "start": 16, "missing": 16}
 """The faults of a file and their numbers: fewer bytes left than a record's head has; a kind not allowed here; a length wrong for the kind; a
-body past the input; an end count unequal to the columns; bytes after the end record."""
+body past the input; an end count unequal to the columns or to the rows; bytes after the end record; a row whose start is not the next one; an end
+before the last row."""
 
 
 @dataclasses.dataclass(frozen=True)
@@ -501,18 +507,32 @@ def holds(check, *arguments):
     return False
 
 
-def record_checks(data, at, state):
-    """The checks of a record in their order: a name, the number, and whether it holds. Of a body that is cut the missing bytes count as 0, so
-    that what is wrong with it besides is seen."""
+def frame_checks(data, at, is_allowed, is_wrong):
+    """The checks that every file asks of a record before its body is looked at: a name, the number, and whether it holds. Which kinds are
+    allowed, and which length is wrong for a kind, is the file's own."""
     left = max(0, len(data) - at)
     yield "cut", FAULTS["cut"], left < 4
     if left < 4:
         return
     length, kind = struct.unpack_from("<HH", data, at)
-    body = data[at + 4:at + 4 + length].ljust(length, b"\0")
-    yield "kind", FAULTS["kind"], not is_kind_allowed(kind, state)
-    yield "length", FAULTS["length"], is_length_wrong(kind, length)
+    yield "kind", FAULTS["kind"], not is_allowed(kind)
+    yield "length", FAULTS["length"], is_wrong(kind, length)
     yield "body", FAULTS["body"], left - 4 < length
+
+
+def framed(data, at):
+    """The kind of a record and its body. Of a body that is cut the missing bytes count as 0, so that what is wrong with it besides is seen; of a
+    record that has no head there is no kind."""
+    if len(data) - at < 4:
+        return None, b""
+    length, kind = struct.unpack_from("<HH", data, at)
+    return kind, data[at + 4:at + 4 + length].ljust(length, b"\0")
+
+
+def record_checks(data, at, state):
+    """The checks of a record of a job file in their order."""
+    yield from frame_checks(data, at, lambda kind: is_kind_allowed(kind, state), is_length_wrong)
+    kind, body = framed(data, at)
     if kind == 1:
         height, members = struct.unpack_from("<HI", body.ljust(6, b"\0"))
         yield "1", 1, holds(check_height, height)
@@ -615,12 +635,16 @@ def outside_jobs(data):
 # ---- Saving a plate, request a) of document 02
 
 
+def in_records(bodies):
+    """Kinds and bodies as the bytes of a file."""
+    return b"".join(struct.pack("<HH", len(body), kind) + body for kind, body in bodies)
+
+
 def written(height, members, bound, columns):
     """The job file of settings, a bound and columns."""
     bodies = [(1, struct.pack("<HII", height, members, bound))]
     bodies += [(2, struct.pack(f"<{len(column)}H", *column)) for column in columns]
-    bodies += [(3, struct.pack("<I", len(columns)))]
-    return b"".join(struct.pack("<HH", len(body), kind) + body for kind, body in bodies)
+    return in_records([*bodies, (3, struct.pack("<I", len(columns)))])
 
 
 def columns_in(boundaries, counts):
@@ -674,6 +698,178 @@ def job_size(counts):
     check_columns(counts)
     check_counts(counts)
     return file_size(counts)
+
+
+# ---- Sending a table, request c) of document 02: the reader
+
+
+@dataclasses.dataclass(frozen=True)
+class Received:
+    """What was read of a table file so far: what goes with the table, the cells of each row, and whether the end was read."""
+
+    head: Head = None
+    rows: tuple = ()
+    ended: bool = False
+
+    @property
+    def plate(self):
+        return plate_of(*self.head.settings())
+
+    def is_begun(self):
+        return self.head is not None
+
+    def is_whole(self):
+        return len(self.rows) == len(self.plate.starts)
+
+    def due(self):
+        """The start of the next row; none after the last."""
+        return None if self.is_whole() else self.plate.starts[len(self.rows)]
+
+    def with_record(self, kind, body):
+        if kind == 16:
+            return dataclasses.replace(self, head=head_in(body))
+        if kind == 17:
+            return dataclasses.replace(self, rows=(*self.rows, row_in(body, self.plate.tmax)[1]))
+        return dataclasses.replace(self, ended=True)
+
+
+def head_in(body):
+    return Head(*struct.unpack_from("<HII", body.ljust(10, b"\0")))
+
+
+def row_in(body, tmax):
+    """One start, signed, and its cells, for each thickness from 1 to tmax."""
+    start, *cells = struct.unpack_from(f"<h{tmax}I", body.ljust(2 + 4 * tmax, b"\0"))
+    return start, cells
+
+
+def is_table_kind_allowed(kind, read):
+    """One kind 16 comes first; then rows, of which every table has some; then one kind 18. No remarks. That an end straight after kind 16 is a
+    kind not allowed, and not rows that are missing, is a decision: the kinds alone tell it."""
+    if not read.is_begun():
+        return kind == 16
+    return kind == 17 or kind == 18 and len(read.rows) > 0
+
+
+def is_table_length_wrong(kind, length, read):
+    """How long a row is, the settings say; before them no length is wrong for it."""
+    if kind == 17:
+        return read.is_begun() and length != 2 + 4 * read.plate.tmax
+    return {16: length != 10, 18: length != 2}.get(kind, False)
+
+
+def opening_checks(body):
+    head = head_in(body)
+    yield "1", 1, holds(check_height, head.height)
+    yield "2", 2, holds(check_members, head.members)
+    yield "7", 7, head.is_over()
+
+
+def row_checks(body, read):
+    """Starts rise, every start is present: the start is the next one. That a row which skips one is refused, and not the end that comes too
+    early, and that its cells are looked at after its start, are decisions."""
+    start, cells = row_in(body, read.plate.tmax)
+    yield "start", FAULTS["start"], start != read.due()
+    yield "6", 6, any(cell > limit_of(read.plate, read.head, t) for t, cell in enumerate(cells, 1))
+
+
+def end_checks(body, read):
+    """The number of rows is that of the table's starts, and no row is missing."""
+    rows, = struct.unpack_from("<H", body.ljust(2, b"\0"))
+    yield "missing", FAULTS["missing"], not read.is_whole()
+    yield "unequal", FAULTS["unequal"], rows != len(read.plate.starts)
+
+
+def table_record_checks(data, at, read):
+    """The checks of a record of a table file in their order. Without settings there is nothing to hold a row or an end to."""
+    yield from frame_checks(data, at, lambda kind: is_table_kind_allowed(kind, read), lambda *frame: is_table_length_wrong(*frame, read))
+    kind, body = framed(data, at)
+    if kind == 16:
+        yield from opening_checks(body)
+    if kind == 17 and read.is_begun():
+        yield from row_checks(body, read)
+    if kind == 18 and read.is_begun():
+        yield from end_checks(body, read)
+
+
+def table_records(data):
+    """The records one after the other up to the first at fault: the place of each, its checks, and what was read before it. After the end record
+    there is one check: that something is left."""
+    at, read = 0, Received()
+    while not read.ended:
+        checks = list(table_record_checks(data, at, read))
+        yield at, checks, read
+        if any(is_so for _, _, is_so in checks):
+            return
+        kind, body = framed(data, at)
+        at, read = at + 4 + len(body), read.with_record(kind, body)
+    yield at, [("tail", FAULTS["tail"], at < len(data))], read
+
+
+def table_faults(data):
+    """The names of all the checks that hold in the first record at fault."""
+    return [name for _, checks, _ in table_records(data) for name, _, is_so in checks if is_so]
+
+
+def table_in(data):
+    """What a table file holds. The first record at fault decides, and each place is the record's first byte."""
+    for at, checks, read in table_records(data):
+        for _, number, is_so in checks:
+            refuse(number, is_so, at)
+    return read
+
+
+def read_table(data, table):
+    """A table file read into a lent table: the file's refusals, then 3, since only its settings say how long the table is. Answers what goes with
+    the table."""
+    read = table_in(data)
+    cells = list(itertools.chain(*read.rows))
+    assert len(cells) == len(read.plate.cells)
+    check_room(1, table, len(cells))
+    table[:len(cells)] = cells
+    return read.head
+
+
+# ---- Sending a table: the writer
+
+
+def table_written(head, table):
+    """The table file of a table."""
+    plate = plate_of(*head.settings())
+    bodies = [(16, struct.pack("<HII", head.height, head.members, head.columns))]
+    for z in plate.starts:
+        row = [table[plate.cell_of[z, t]] for t in range(1, plate.tmax + 1)]
+        bodies.append((17, struct.pack(f"<h{plate.tmax}I", z, *row)))
+    return in_records([*bodies, (18, struct.pack("<H", len(plate.starts)))])
+
+
+def table_file_size(plate):
+    """Of the first record and the last, and of the rows."""
+    return 14 + len(plate.starts) * (6 + 4 * plate.tmax) + 6
+
+
+def sending_checks(table, head, out):
+    """The checks of the writer by their names, in their order. Without settings nothing says how long a table is, and only they are asked."""
+    settings = {"1": lambda: check_height(head.height), "2": lambda: check_members(head.members)}
+    if any(holds(check) for check in settings.values()):
+        return settings
+    plate = plate_of(*head.settings())
+    return settings | {
+        "3 table": lambda: check_room(1, table, len(plate.cells)),
+        "7": lambda: refuse(7, head.is_over()),
+        "6": lambda: check_cells(plate, head, table),
+        "3 output": lambda: check_room(2, out, table_file_size(plate)),
+    }
+
+
+def write_table(table, head, out):
+    """Writes the file into a lent output, and answers its length."""
+    for check in sending_checks(table, head, out).values():
+        check()
+    data = table_written(head, table)
+    assert len(data) == table_file_size(plate_of(*head.settings()))
+    out[:len(data)] = data
+    return len(data)
 
 
 # ---- The planning program

@@ -1,0 +1,17 @@
+-- `run` is proved: what is given, the table and the output are as long as they say, by a law and not by counting. Assumes the contract of C's
+-- `write`, as `libc` states it.
+use mathlib.Core.Path.{sym}
+use Prim.Native.Nat.{ℕ}
+use lib.ListN.{length-replicate}
+use Rattle.trial_sent.proofs.run.Statement.{statement}
+use Rattle.trial_sent.proofs.run.Tie as tie
+
+pub run-spec : {M : Type 1} → statement M
+run-spec =
+    tie.close
+    (tie.spec
+    (λ c. sym (length-replicate {A = ℕ} 16_384 0))
+    (λ c. sym (length-replicate {A = ℕ} 18_400 0))
+    (λ c. sym (length-replicate {A = ℕ} 77_100 0))
+    (λ c κs. tt)
+    (λ c. tt))
