@@ -8,7 +8,7 @@ use lib.ListN.{length, getD, take, drop}
 use Rattle.paper.specs.Limits.{sets, largestBound}
 use Rattle.paper.specs.Layer.{tmax}
 use Rattle.paper.specs.Table.{startAt, thicknessAt}
-use Rattle.plate.specs.Call.{answerOf, leftBy}
+use Rattle.plate.specs.Call.{leftBy}
 use Rattle.plate.specs.Head.{Held, heldIn, cellsOf}
 use Rattle.plate.specs.Refusal.{done}
 use Rattle.plate.specs.declared.head.Head.{Head}
@@ -18,8 +18,8 @@ use Rattle.record.specs.Frame.{lengthAt, kindAt, bodyAt}
 use Rattle.sent.specs.Start.{rowStart, signed16}
 use Rattle.sent.specs.Written.{rowsOf, tableBytes, fileOf, fileSize, Sendable}
 use Rattle.sent.specs.File.{rowPlace, tableFile}
-use Rattle.send.specs.Sending.{sending}
-use Rattle.receive.specs.Receiving.{receiving}
+use Rattle.send.specs.Sending.{sending, writeAnswer}
+use Rattle.receive.specs.Receiving.{receiving, readAnswer}
 use Rattle.plan.specs.Plan.{Sheets}
 use Rattle.promises.specs.Plans.{plateOf, SettingsOf, Room, Plans}
 
@@ -85,7 +85,7 @@ pub record SendingTables : Type 0 where
   -- and of the table that is read from a file the same bytes are written
   pub write-after-read : (file : List ℕ) → Bytes file → (held : Held) → tableFile file ≡ done held → fileOf held ≡ file
   -- also where it was read into a longer buffer
-  pub write-received : (file : List ℕ) → Bytes file → (lent : List ℕ) (head : Head) → answerOf (receiving file lent) ≡ done head → fileOf (receivedIn file lent head) ≡ file
+  pub write-received : (file : List ℕ) → Bytes file → (lent : List ℕ) (head : Head) → readAnswer file lent ≡ done head → fileOf (receivedIn file lent head) ≡ file
   -- the accepted files are exactly the values of `tableBytes` on settings within limits, a count of at most 1,000,000 and cells in bounds
   pub exactly : (file : List ℕ) → Bytes file → (held : Held) → (tableFile file ≡ done held) ↔ (Sendable held × (file ≡ fileOf held))
   -- two tables never give the same file
@@ -107,17 +107,17 @@ pub record SendingTables : Type 0 where
   -- 'kind 18, the number of rows (2)'
   pub ends : (held : Held) → SettingsOf held → Bounded held → Ending (fileOf held) (held .head)
   -- the writer: what it does not refuse is a table of settings within limits and in bounds, and is sent
-  pub sends : (held : Held) → held .head .members < sets → (out : List ℕ) (size : ℕ) → answerOf (sending held out) ≡ done size
+  pub sends : (held : Held) → held .head .members < sets → (out : List ℕ) (size : ℕ) → writeAnswer held out ≡ done size
       → SentOver held out size (leftBy (sending held out))
   -- and every such table can be sent where the output has room
   pub takes : (held : Held) → SettingsOf held → Bounded held → (out : List ℕ) → fileSize (held .head) ≤ length out
-      → answerOf (sending held out) ≡ done (fileSize (held .head))
+      → writeAnswer held out ≡ done (fileSize (held .head))
   -- the reader: it answers a head exactly where the file holds a table of it, 'a file in bounds whose cells no columns give' too, and the lent
   -- table has room
-  pub receives : (file lent : List ℕ) (head : Head) → (answerOf (receiving file lent) ≡ done head) ↔ ReadInto file lent head
+  pub receives : (file lent : List ℕ) (head : Head) → (readAnswer file lent ≡ done head) ↔ ReadInto file lent head
   -- and the lent table is then the cells and its old rest
   pub leaves : (file lent : List ℕ) (head : Head) (into : ReadInto file lent head) → leftBy (receiving file lent) ≡ into .cells ++ drop (cellsOf head) lent
   -- 'there a layer's error is its cell': demand 2 for a table that came by file, planned and read back by its cells
-  pub planned : (file : List ℕ) → Bytes file → (lent : List ℕ) (head : Head) → answerOf (receiving file lent) ≡ done head
+  pub planned : (file : List ℕ) → Bytes file → (lent : List ℕ) (head : Head) → readAnswer file lent ≡ done head
       → (bound : ℕ) → bound ≤ largestBound → (sheets : Sheets) → Room (head .height) (head .members) sheets
       → Plans (plateOf (receivedIn file lent head)) (receivedIn file lent head) bound sheets

@@ -12,11 +12,11 @@ use Rattle.paper.specs.Layer.{Column}
 use Rattle.paper.specs.Table.{cells, cellAt, ofTable}
 use Rattle.paper.specs.Sequence.{count, Admissible, Chosen, None}
 use Rattle.paper.specs.Groups.{AddUp}
-use Rattle.plate.specs.Call.{answerOf, leftBy}
+use Rattle.plate.specs.Call.{leftBy}
 use Rattle.plate.specs.Head.{Held, heldIn, clearedHead}
 use Rattle.plate.specs.Refusal.{Told, done, refused}
 use Rattle.sent.specs.Written.{fileSize}
-use Rattle.send.specs.Sending.{sending}
+use Rattle.send.specs.Sending.{sending, writeAnswer}
 use Rattle.receive.specs.Receiving.{receiving}
 use Rattle.promises.specs.Runs as run
 use Rattle.promises.specs.Runs.{runs, next, join, tabulate, Group, Joins, one, both, columnsOf, LentEnough, Tabulates, TableOf, TablesOf, joinHeld, buffersOf, countOf, Joined}
@@ -31,7 +31,7 @@ readAgain (refused number place) left lent = refused number place
 
 -- a table is written into a lent output, and what was written is read into a lent table
 abbrev pub sendInto : Held → List ℕ → List ℕ → Told Held
-sendInto held out lent = readAgain (answerOf (sending held out)) (leftBy (sending held out)) lent
+sendInto held out lent = readAgain (writeAnswer held out) (leftBy (sending held out)) lent
 
 -- an output and a table with room; the length of a file goes by the settings
 pub record RoomForFile (N T : ℕ) (out lent : List ℕ) : Type 0 where

@@ -5,7 +5,7 @@ use mathlib.Core.List.{List, [], _∷_, _++_}
 use Prim.Native.Nat.{ℕ, suc, _+_, _*_, _/_, _%_, _≤_, _<_}
 use native.Mathlib.Omega.{arith}
 use lib.ListN.{length, getD, set, take}
-use lib.Seq.{sets, length-sets, length-take-le, take-suc}
+use lib.Seq.{sets, length-take-le, take-suc}
 use Rattle.plate.specs.declared.head.Head.{Head}
 use Rattle.record.specs.Written.{bytes16, bytes32, bytesOf, quadBytesOf, framed, laidAt}
 use Rattle.record.proofs.Spelled.{length-bytesOf, length-quadBytesOf}
@@ -67,9 +67,6 @@ row-numbers start row =
 module _ (start : ℕ) (row out begun : List ℕ) (at : ℕ) (room : at + 6 + 4 * length row ≤ length out) (e : begun ≡ laidAt out at (bytesOf (rowNumbers start (length row)))) where
   begun-stored : begun ≡ sets out at (bytesOf (rowNumbers start (length row)))
   begun-stored = e ∙ laid out at (bytesOf (rowNumbers start (length row))) (omega (arith, length-bytesOf (rowNumbers start (length row))))
-
-  pub begun-long : length begun ≡ length out
-  begun-long = ap (λ (l : List ℕ). length l) begun-stored ∙ length-sets out at (bytesOf (rowNumbers start (length row)))
 
   pub row-laid : sets begun (at + 6) (quadBytesOf row) ≡ sets out at (framed rowKind (bytes16 start ++ quadBytesOf row))
   row-laid =
