@@ -1,8 +1,8 @@
 """Document 01 in plain Python, and the requests of document 02 that have landed: an independent reading, in the documents' own order and words.
 
-What the trial programs must print is made from here, by expected-calls, expected-records, expected-saves, expected-tables and expected-jobs.
-Nothing is taken from the library's sources. Voxels are counted one by one, the sequences of a small plate are listed and judged by the definition,
-and a call asks its refusals one after the other in the order that the document names them.
+What the trial programs must print is made from here, by expected-calls, expected-records, expected-saves, expected-tables, expected-machines and
+expected-jobs. Nothing is taken from the library's sources. Voxels are counted one by one, the sequences of a small plate are listed and judged by
+the definition, and a call asks its refusals one after the other in the order that the document names them.
 
 A rule that a request of document 02 moves stands in one place: M in `greatest_count`, what is admissible in `may_start`, `may_end`,
 `may_end_first`, `may_start_last` and `is_layer`, what goes with a table in `Head`, the number of each fault of a file in `FAULTS`.
