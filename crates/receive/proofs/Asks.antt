@@ -12,14 +12,14 @@ use lib.Dec.{eqb}
 use lib.ListN.{length}
 use Rattle.lists.specs.Checks.{Check, first}
 use Rattle.lists.proofs.Checks.{first-none, first-passed, first-stopped, first-earlier, first-later}
-use Rattle.plate.specs.Refusal.{Numbered}
+use Rattle.plate.specs.Refusal.{Numbered, check}
 use Rattle.plate.specs.Head.{isOver, headChecks, overCheck}
 use Rattle.plate.specs.declared.head.Head.{Head}
 use Rattle.record.specs.Bytes.{le16}
 use Rattle.record.specs.Frame.{lengthAt, kindAt, bodyAt}
 use Rattle.record.specs.Faults.{tail, frameChecks}
-use Rattle.record.proofs.Frames.{frame-passed}
-use Rattle.sent.specs.Kinds.{headKind, endKind, headLength, rowLength, endLength, allowedAfter, fits}
+use Rattle.record.proofs.Frames.{frame-passed, frame-passes}
+use Rattle.sent.specs.Kinds.{headKind, rowKind, endKind, headLength, rowLength, endLength, allowedAfter, fits}
 use Rattle.sent.specs.Start.{rowStart, twos16}
 use Rattle.sent.specs.Written.{rowsOf}
 use Rattle.sent.specs.File.{headIn, openingChecks, rowPlace, rowAt, someOver, rowChecks, endChecks, recordChecks, rowsChecks}
@@ -98,14 +98,9 @@ module _ (s : List ℕ) (head : Head) (left r : ℕ) where
     unfolding rowChecks
     row-elsewhere e = simp (ne-eqb left 0 (λ z. omega arith), ne-eqb given (twos16 (rowStart (head .members) r)) e)
 
-    module _ (starts : given ≡ twos16 (rowStart (head .members) r)) where
-      pub row-over : someOver head (rowAt s (head .members) r) ≡ true → some (at 6 place) ≡ first (rowChecks s head left r)
-      unfolding rowChecks
-      row-over e = simp (ne-eqb left 0 (λ z. omega arith), eq-eqb given (twos16 (rowStart (head .members) r)) starts, e)
-
-      pub row-fine : someOver head (rowAt s (head .members) r) ≡ false → none ≡ first (rowChecks s head left r)
-      unfolding rowChecks
-      row-fine e = simp (ne-eqb left 0 (λ z. omega arith), eq-eqb given (twos16 (rowStart (head .members) r)) starts, e)
+    pub row-cells : given ≡ twos16 (rowStart (head .members) r) → first (check 6 (someOver head (rowAt s (head .members) r)) place ∷ []) ≡ first (rowChecks s head left r)
+    unfolding rowChecks
+    row-cells e = simp (ne-eqb left 0 (λ z. omega arith), eq-eqb given (twos16 (rowStart (head .members) r)) e)
 
   -- either
 
@@ -118,6 +113,20 @@ module _ (s : List ℕ) (head : Head) (left r : ℕ) where
   pub record-stop : (n : Numbered) → some n ≡ first frame → some n ≡ first (recordChecks s head left r)
   unfolding recordChecks
   record-stop n e = sym (first-stopped frame bodies n (sym e))
+
+  -- the frame of a row that stands whole passes
+  pub row-framed : kindAt s place ≡ rowKind → lengthAt s place ≡ rowLength (head .members) → rowPlace (head .members) (r + 1) ≤ length s → none ≡ first frame
+  unfolding allowedAfter fits
+  row-framed k l w =
+      let T = head .members in
+      let other : kindAt s place ≡ endKind → ⊥ = λ e. omega (arith, k) in
+      let next : r + 1 ≡ suc r = omega arith in
+      let end = place-next T r ∙ ap (rowPlace T) (sym next) in
+      sym (frame-passes s place (allowedAfter r (kindAt s place)) (fits T (kindAt s place) (lengthAt s place)) (record {
+        allows = simp (ne-eqb (kindAt s place) endKind other, eq-eqb (kindAt s place) rowKind k);
+        fits = simp (ne-eqb (kindAt s place) endKind other, eq-eqb (lengthAt s place) (rowLength T) l);
+        within = omega (arith, l, end);
+      }))
 
   module _ (framed : none ≡ first frame) where
     pub end-decides : kindAt s place ≡ endKind → first (endChecks s head left r) ≡ first (recordChecks s head left r)

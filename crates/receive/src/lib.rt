@@ -1,5 +1,7 @@
 // Receiving a table: a table file read into a lent table. The file is judged whole before the table is written.
 ghost use mathlib.Core.Path.{_≡_};
+ghost use mathlib.Core.Bool.{true};
+ghost use mathlib.Core.List.{[], _∷_};
 ghost use mathlib.Core.Option.{none};
 ghost use Prim.Native.Nat.{_+_, _-_, _*_, _<_, _≤_};
 ghost use lib.ListN.{length};
@@ -9,14 +11,15 @@ ghost use Rattle.lists.specs.Search.{someBelow};
 ghost use Rattle.paper.specs.Limits.{mostThickness};
 ghost use Rattle.plate.specs.Call.{Does};
 ghost use Rattle.plate.specs.Checked.{saidBy};
+ghost use Rattle.plate.specs.Refusal.{check};
 ghost use Rattle.plate.specs.Head.{toldTable, SettingsFor};
 ghost use Rattle.plate.specs.Settings.{Sound, Judges};
-ghost use Rattle.record.specs.Bytes.{le32, quads};
+ghost use Rattle.record.specs.Bytes.{le16, le32, quads};
 ghost use Rattle.sent.specs.Kinds.{allowedAfter, fits as Kind·fits};
 ghost use Rattle.sent.specs.File.{headIn, openingChecks, rowPlace, rowChecks, endChecks, recordChecks, rowsChecks, cellsFrom};
 ghost use Rattle.table.specs.Limits.{Limits};
 ghost use Rattle.receive.specs.Receiving.{receiving};
-ghost use Rattle.receive.specs.Rows.{overAt};
+ghost use Rattle.receive.specs.Rows.{overAt, RowStands};
 use plate::head::Head;
 use plate::head::Tabled;
 use plate::refusal::Checked;
@@ -25,6 +28,7 @@ use plate::refusal::refusal_at;
 use plate::settings::Made;
 use plate::settings::Settings;
 use record::Fault;
+use record::bytes_left;
 use record::check_frame;
 use record::check_tail;
 use record::kind_at;
@@ -94,6 +98,43 @@ fn any_over(file: &[u8], limits: &[u32; 32], at: usize, width: usize) -> bool
     found
 }
 
+// 6 of the row that begins at a place and stands whole in the file.
+fn check_cells(file: &[u8], limits: &[u32; 32], at: usize, width: usize) -> Checked
+    requires { ⌜ (width ≤ mostThickness) × (at + 6 + 4 * width ≤ length (now file)) ⌝ }
+    ensures { λ r. ⌜ saidBy r ≡ first (check 6 (someBelow (overAt (now (limits .entry)) (now (file .entry)) (at + 6)) width) at ∷ []) ⌝ }
+{
+    if any_over(file, limits, at + 6, width) {
+        return Checked::Refused(refusal_at(Reason::Cell, at));
+    }
+    Checked::Passed
+}
+
+// Two bytes that are there, the lower first.
+fn word_at(file: &[u8], at: usize) -> u16
+    requires { ⌜ at + 2 ≤ length (now file) ⌝ }
+    ensures { λ r. ⌜ r ≡ le16 (now (file .entry)) at ⌝ }
+{
+    file[at] as u16 + 256 * file[at + 1] as u16
+}
+
+// Whether a whole row with this start stands at a place. It mostly does, and so it is asked first, by the six bytes that a row begins with.
+fn stands(file: &[u8], at: usize, width: usize, start: u16) -> bool
+    requires { ⌜ width ≤ mostThickness ⌝ }
+    ensures { λ r. ⌜ (r ≡ true → RowStands (now (file .entry)) at width start) ⌝ }
+{
+    let length = 2 + 4 * width;
+    if bytes_left(file, at) < 4 + length {
+        return false;
+    }
+    if word_at(file, at) as usize != length {
+        return false;
+    }
+    if word_at(file, at + 2) != Kind::ROW {
+        return false;
+    }
+    word_at(file, at + 4) == start
+}
+
 // A row whose frame was judged: its start is the next one, and then 6.
 fn check_row(file: &[u8], limits: &[u32; 32], s: Settings, row: usize, at: usize) -> Checked
     requires { ⌜ SettingsFor (headIn (now file)) s × Limits (headIn (now file)) (now limits) ⌝ }
@@ -107,10 +148,7 @@ fn check_row(file: &[u8], limits: &[u32; 32], s: Settings, row: usize, at: usize
     if word(file, at + 4) != start_bits(s.tmax, row) {
         return Checked::Refused(refusal_at(Fault::UNEQUAL, at));
     }
-    if any_over(file, limits, at + 6, s.tmax) {
-        return Checked::Refused(refusal_at(Reason::Cell, at));
-    }
-    Checked::Passed
+    check_cells(file, limits, at, s.tmax)
 }
 
 // The end: no row is missing, their number is right, and nothing stands behind it.
@@ -119,7 +157,7 @@ fn check_end(file: &[u8], s: Settings, row: usize, at: usize) -> Checked
     requires { ⌜ (row ≤ s .rows) × (at ≡ rowPlace (headIn (now file) .members) row) ⌝ }
     ensures { λ r. ⌜ saidBy r ≡ first (endChecks (now (file .entry)) (headIn (now (file .entry))) (s .rows - row) row) ⌝ }
 {
-    if row < s.rows {
+    if row != s.rows {
         return Checked::Refused(refusal_at(Fault::UNEQUAL, at));
     }
     if word(file, at + 4) as usize != s.rows {
@@ -150,7 +188,7 @@ fn fits(s: Settings, kind: u16, length: usize) -> bool
 }
 
 // The record that stands where a row goes: its frame, and then what it is by its kind.
-fn check_record(file: &[u8], limits: &[u32; 32], s: Settings, row: usize, at: usize) -> Checked
+fn check_by_kind(file: &[u8], limits: &[u32; 32], s: Settings, row: usize, at: usize) -> Checked
     requires { ⌜ SettingsFor (headIn (now file)) s × Limits (headIn (now file)) (now limits) ⌝ }
     requires { ⌜ (row ≤ s .rows) × (at ≡ rowPlace (headIn (now file) .members) row) ⌝ }
     ensures { λ r. ⌜ saidBy r ≡ first (recordChecks (now (file .entry)) (headIn (now (file .entry))) (s .rows - row) row) ⌝ }
@@ -166,6 +204,20 @@ fn check_record(file: &[u8], limits: &[u32; 32], s: Settings, row: usize, at: us
         return check_end(file, s, row, at);
     }
     check_row(file, limits, s, row, at)
+}
+
+// The same: a row that is due and stands there is left to its cells.
+fn check_record(file: &[u8], limits: &[u32; 32], s: Settings, row: usize, at: usize) -> Checked
+    requires { ⌜ SettingsFor (headIn (now file)) s × Limits (headIn (now file)) (now limits) ⌝ }
+    requires { ⌜ (row ≤ s .rows) × (at ≡ rowPlace (headIn (now file) .members) row) ⌝ }
+    ensures { λ r. ⌜ saidBy r ≡ first (recordChecks (now (file .entry)) (headIn (now (file .entry))) (s .rows - row) row) ⌝ }
+{
+    if row < s.rows {
+        if stands(file, at, s.tmax, start_bits(s.tmax, row)) {
+            return check_cells(file, limits, at, s.tmax);
+        }
+    }
+    check_by_kind(file, limits, s, row, at)
 }
 
 // All records behind the first.

@@ -1,26 +1,29 @@
--- `check_record` meets its contract: the frame by its kind, and where it passes the end or the row decides; a row whose frame passed stands
--- whole in the file. Assumes nothing.
+-- `check_record` meets its contract: where a row that is due stands whole, its frame and its start pass, so that its cells decide; else all is asked
+-- in its order. Assumes nothing.
 use mathlib.Core.Path.{_≡_, sym, ap, _∙_}
-use mathlib.Core.List.{List}
+use mathlib.Core.List.{List, [], _∷_}
 use mathlib.Core.Option.{none}
-use Prim.Native.Nat.{ℕ, _-_}
+use Prim.Native.Nat.{ℕ, _+_, _-_, _*_}
+use native.Mathlib.Omega.{arith}
 use borrow.Author.Needs.{needs}
 use Rattle.lists.specs.Checks.{first}
-use Rattle.plate.specs.Checked.{saidBy}
-use Rattle.plate.specs.Refusal.{numbered}
+use Rattle.plate.specs.Refusal.{check}
 use Rattle.plate.specs.declared.head.Head.{Head}
-use Rattle.plate.specs.declared.refusal.Checked.{Checked}
-use Rattle.plate.proofs.Heads.{members-for}
+use Rattle.record.specs.Bytes.{le16}
 use Rattle.record.specs.Frame.{lengthAt, kindAt}
-use Rattle.record.specs.Faults.{frameChecks}
-use Rattle.sent.specs.Kinds.{allowedAfter, fits}
+use Rattle.sent.specs.Kinds.{rowKind, rowLength}
+use Rattle.sent.specs.Start.{rowStart, twos16}
 use Rattle.sent.specs.File.{headIn, rowPlace}
-use Rattle.receive.proofs.Asks.{frame, record-stop, end-decides, row-decides, row-within}
+use Rattle.sent.proofs.Places.{place-for}
+use Rattle.table.proofs.Cells.{greatest-for}
+use Rattle.receive.specs.Rows.{RowStands}
+use Rattle.receive.proofs.Asks.{frame, row-cells, row-framed, row-decides}
+use Rattle.receive.proofs.Rows.{start-is, some-over}
 use Rattle.receive.proofs.check_record.Statement.{statement}
 use Rattle.receive.proofs.check_record.Tie as tie
 
--- the frame was judged
-module _ (m : tie.After-check-frame) where
+-- a row stands there
+module _ (m : tie.Then2) where
   abbrev a : tie.Start
   a = m .before .before .before .before .before .before
 
@@ -33,50 +36,37 @@ module _ (m : tie.After-check-frame) where
   abbrev left : ℕ
   left = a .args .s .rows - a .args .row
 
-  kind-is : m .before .before .before .before .kind-at .result ≡ kindAt file (rowPlace (head .members) (a .args .row))
-  kind-is = m .before .before .before .before .kind-at .ensures ∙ ap (kindAt file) (a .pre .1 .1)
+  abbrev place : (a .args .at ≡ rowPlace (head .members) (a .args .row))
+  place = a .pre .1 .1
 
-  allows : m .before .before .before .allowed-after .result ≡ allowedAfter (a .args .row) (kindAt file (rowPlace (head .members) (a .args .row)))
-  allows = m .before .before .before .allowed-after .ensures ∙ ap (allowedAfter (a .args .row)) kind-is
+  row : RowStands file (a .args .at) (a .args .s .tmax) (m .before .before .start-bits .result)
+  row = m .before .stands .ensures (m .if2 .taken)
 
-  right : m .before .fits2 .result ≡ fits (head .members) (kindAt file (rowPlace (head .members) (a .args .row))) (lengthAt file (rowPlace (head .members) (a .args .row)))
-  right =
-      m .before .fits2 .ensures
-      ∙ (λ i. fits (members-for (a .pre .0 .0) i) (kind-is i) ((m .before .before .length-at .ensures ∙ ap (lengthAt file) (a .pre .1 .1)) i))
+  kind-is : kindAt file (rowPlace (head .members) (a .args .row)) ≡ rowKind
+  kind-is = sym (ap (kindAt file) place) ∙ row .kind-is
 
-  framed : (x : Checked) → m .check-frame .result ≡ x → saidBy x ≡ first (frame file head left (a .args .row))
-  framed x e = ap saidBy (sym e) ∙ m .check-frame .ensures ∙ (λ i. first (frameChecks file (a .pre .1 .1 i) (allows i) (right i)))
+  long : lengthAt file (rowPlace (head .members) (a .args .row)) ≡ rowLength (head .members)
+  unfolding rowLength
+  long = sym (ap (lengthAt file) place) ∙ row .long ∙ ap (λ (n : ℕ). 2 + 4 * n) (greatest-for (a .pre .0 .0))
 
--- and passed
-module _ (m : tie.After-enum-told) where
-  abbrev judged : tie.After-check-frame
-  judged = m .before .before
+  starts : le16 file (rowPlace (head .members) (a .args .row) + 4) ≡ twos16 (rowStart (head .members) (a .args .row))
+  starts = sym (ap (λ (n : ℕ). le16 file (n + 4)) place) ∙ row .starts ∙ m .before .before .start-bits .ensures ∙ start-is (a .pre .0 .0) (a .args .row)
 
-  passed : none ≡ first (frame (file judged) (head judged) (left judged) (a judged .args .row))
-  passed = framed judged _ (m .enum-told .given .1)
+  framed : none ≡ first (frame file head left (a .args .row))
+  framed = row-framed file head left (a .args .row) kind-is long (omega (arith, row .within, place, place-for (a .pre .0 .0) (a .args .row)))
+
+cells-requires : tie.Need-check-cells-requires
+cells-requires c κs = (a c .pre .0 .0 .sound .thick, row c .within)
 
 returns : tie.Need-returns
 returns c =
-    let m = c .before .before .before in
-    record-stop (file m) (head m) (left m) (a m .args .row) (numbered (c .before .frame .given .0 .0)) (framed m _ (c .before .frame .given .1))
-
-returns-2 : tie.Need-returns-2
-returns-2 c =
-    let m = c .before .before in
-    let j = judged m in
-    c .check-end .ensures ∙ end-decides (file j) (head j) (left j) (a j .args .row) (passed m) (sym (kind-is j) ∙ c .before .if1 .taken)
-
-row-requires : tie.Need-check-row-requires
-row-requires c κs =
     let m = c .before in
-    let j = judged m in
-    (a j .pre .0, (a j .pre .1, row-within (file j) (head j) (left j) (a j .args .row) (passed m) (λ e. c .if1 .left (kind-is j ∙ e))))
-
-returns-3 : tie.Need-returns-3
-returns-3 c =
-    let m = c .before .before in
-    let j = judged m in
-    c .check-row .ensures ∙ row-decides (file j) (head j) (left j) (a j .args .row) (passed m) (λ e. c .before .if1 .left (kind-is j ∙ e))
+    let g = a m .args in
+    let over = some-over (a m .pre .0 .0) (g .limits .now) (file m) (a m .pre .0 .1) (g .row) (g .at) (place m) in
+    c .check-cells .ensures
+    ∙ (λ i. first (check 6 (over i) (place m i) ∷ []))
+    ∙ row-cells (file m) (head m) (left m) (g .row) (omega arith) (starts m)
+    ∙ row-decides (file m) (head m) (left m) (g .row) (framed m) (λ e. omega (arith, kind-is m))
 
 pub check-record-spec : {M : Type 1} → statement M
 check-record-spec =
@@ -84,13 +74,7 @@ check-record-spec =
     (tie.spec
     (λ c κs. search needs)
     (λ c κs. search needs)
-    (λ c κs. search needs)
-    (λ c κs. search needs)
-    (λ c κs. search needs)
-    (λ c. search needs)
+    cells-requires
     returns
-    (λ c. search needs)
     (λ c κs. search needs)
-    returns-2
-    row-requires
-    returns-3)
+    (λ c. search needs))

@@ -1,23 +1,22 @@
 -- `check_row` meets its contract: where no row is left it is one too many; where one is, its start and then its cells decide. Assumes nothing.
 use mathlib.Core.Path.{_≡_, sym, ap, _∙_}
-use mathlib.Core.List.{List}
+use mathlib.Core.List.{List, [], _∷_}
 use mathlib.Core.Option.{some}
 use Prim.Native.Nat.{ℕ, _+_, _-_, _*_, _≤_}
 use native.Mathlib.Omega.{arith}
 use borrow.Author.Needs.{needs}
-use lib.IntN.{pos, _-ℤ_}
 use lib.ListN.{length}
+use Rattle.lists.specs.Checks.{first}
 use Rattle.lists.specs.Search.{someBelow}
-use Rattle.plate.specs.Refusal.{numbered}
+use Rattle.plate.specs.Refusal.{check, numbered}
 use Rattle.plate.specs.declared.refusal.Refusal.{Refusal}
 use Rattle.record.specs.Bytes.{le16}
 use Rattle.sent.specs.Start.{rowStart, twos16}
 use Rattle.sent.specs.File.{headIn, rowPlace, rowAt, someOver}
 use Rattle.sent.proofs.Places.{place-for, place-small}
-use Rattle.table.proofs.Cells.{greatest-for}
 use Rattle.receive.specs.Rows.{overAt}
-use Rattle.receive.proofs.Asks.{at, row-past, row-elsewhere, row-over, row-fine}
-use Rattle.receive.proofs.Rows.{some-over}
+use Rattle.receive.proofs.Asks.{at, row-past, row-elsewhere, row-cells}
+use Rattle.receive.proofs.Rows.{start-is, some-over}
 use Rattle.receive.proofs.check_row.Statement.{statement}
 use Rattle.receive.proofs.check_row.Tie as tie
 
@@ -39,10 +38,6 @@ module _ (a : tie.Start) where
   word-at : le16 file (a .args .at + 4) ≡ le16 file (place + 4)
   word-at = ap (λ (n : ℕ). le16 file (n + 4)) (a .pre .1 .0 .1)
 
-  start-is : twos16 (pos (a .args .row) -ℤ pos (a .args .s .tmax - 1)) ≡ twos16 (rowStart (headIn file .members) (a .args .row))
-  unfolding rowStart
-  start-is = ap (λ (n : ℕ). twos16 (pos (a .args .row) -ℤ pos (n - 1))) (greatest-for (a .pre .0 .0))
-
   -- a refusal at the record's first byte
   refused : (number : ℕ) → some (at number (a .args .at)) ≡ some (at number place)
   refused number = ap (λ (n : ℕ). some (at number n)) (a .pre .1 .0 .1)
@@ -53,7 +48,7 @@ module _ (m : tie.Else2) where
   a = m .before .before .before .before .before .before
 
   starts : le16 (file a) (place a + 4) ≡ twos16 (rowStart (headIn (file a) .members) (a .args .row))
-  starts = sym (word-at a) ∙ sym (m .before .before .word .ensures) ∙ m .if2 .left ∙ m .before .start-bits .ensures ∙ start-is a
+  starts = sym (word-at a) ∙ sym (m .before .before .word .ensures) ∙ m .if2 .left ∙ m .before .start-bits .ensures ∙ start-is (a .pre .0 .0) (a .args .row)
 
   is-over : someOver (headIn (file a)) (rowAt (file a) (headIn (file a) .members) (a .args .row)) ≡ someBelow (overAt (a .args .limits .now) (file a) (a .args .at + 6)) (a .args .s .tmax)
   is-over = sym (some-over (a .pre .0 .0) (a .args .limits .now) (file a) (a .pre .0 .1) (a .args .row) (a .args .at) (a .pre .1 .0 .1))
@@ -69,18 +64,14 @@ returns-2 c =
     let a = w .before .before .before .before in
     ap (λ (r : Refusal). some (numbered r)) (c .refusal-at2 .ensures) ∙ refused a 16
     ∙ row-elsewhere (file a) (headIn (file a)) _ (a .args .row) (omega arith)
-    (λ e. c .before .if2 .taken (w .word .ensures ∙ word-at a ∙ e ∙ sym (c .before .before .start-bits .ensures ∙ start-is a)))
+    (λ e. c .before .if2 .taken (w .word .ensures ∙ word-at a ∙ e ∙ sym (c .before .before .start-bits .ensures ∙ start-is (a .pre .0 .0) (a .args .row))))
 
 returns-3 : tie.Need-returns-3
 returns-3 c =
-    let m = c .before .before .before in
-    ap (λ (r : Refusal). some (numbered r)) (c .refusal-at3 .ensures) ∙ refused (a m) 6
-    ∙ row-over (file (a m)) (headIn (file (a m))) _ (a m .args .row) (omega arith) (starts m) (is-over m ∙ sym (c .before .before .any-over .ensures) ∙ c .before .if3 .taken)
-
-returns-4 : tie.Need-returns-4
-returns-4 c =
-    let m = c .before .before in
-    row-fine (file (a m)) (headIn (file (a m))) _ (a m .args .row) (omega arith) (starts m) (is-over m ∙ sym (c .before .any-over .ensures) ∙ c .if3 .left)
+    let m = c .before in
+    c .check-cells .ensures
+    ∙ (λ i. first (check 6 (sym (is-over m) i) (a m .pre .1 .0 .1 i) ∷ []))
+    ∙ row-cells (file (a m)) (headIn (file (a m))) _ (a m .args .row) (omega arith) (starts m)
 
 pub check-row-spec : {M : Type 1} → statement M
 check-row-spec =
@@ -93,8 +84,5 @@ check-row-spec =
     (λ c κs. search needs)
     (λ c κs. search needs)
     returns-2
-    (λ c. omega (arith, small (a c)))
     (λ c κs. (a c .pre .0 .0 .sound .thick, room (a c)))
-    (λ c κs. search needs)
-    returns-3
-    returns-4)
+    returns-3)
