@@ -1,6 +1,7 @@
 // Document 01 a second time, with 02's b), by listing: every sequence of a small plate is written out, those with a layer wholly under or over
 // the plate are struck off the list, and the chosen one is picked by the definition. Errors come straight from the columns, voxel by voxel;
-// no table is used, and a sheet only to be followed down. Shares no code with plain.rs.
+// no table is used, and a sheet only to be followed down. Table files, 02's c), are read by the places of their bytes, which the head alone
+// settles, and not record by record. Shares no code with plain.rs.
 
 use std::collections::BTreeMap;
 
@@ -216,4 +217,62 @@ fn keep_better<K: Ord>(kept: &mut BTreeMap<K, Sequence>, key: K, sequence: &Sequ
     if better {
         kept.insert(key, sequence.clone());
     }
+}
+
+// ---- Table files ----
+
+/// So many bytes from the place on, least first.
+fn number_at(file: &[u8], place: usize, bytes: usize) -> u64 {
+    (0..bytes).map(|i| u64::from(file[place + i]) << (8 * i)).sum()
+}
+
+/// Whether these bytes stand at the place.
+fn stands(file: &[u8], place: usize, bytes: &[u8]) -> bool {
+    bytes.iter().enumerate().all(|(i, byte)| file.get(place + i) == Some(byte))
+}
+
+/// The cells of a table file, or a refusal and its place. Where rows and end must stand follows from height and set; so the record at
+/// fault is the first of these places at which something else stands, or where the file is too short.
+pub fn cells_of_file(file: &[u8]) -> Result<Vec<u32>, (u32, usize)> {
+    if !stands(file, 0, &[10, 0, 16, 0]) || file.len() < 14 {
+        return Err((16, 0));
+    }
+    let (height, columns) = (number_at(file, 4, 2), number_at(file, 10, 4));
+    let is_member = |thickness: usize| file[6 + (thickness - 1) / 8] & (1 << ((thickness - 1) % 8)) != 0;
+    let Some(tmax) = (1..=32).rev().find(|&thickness| is_member(thickness)) else {
+        return Err((if height == 0 || height > 512 { 1 } else { 2 }, 0));
+    };
+    if height == 0 || height > 512 {
+        return Err((1, 0));
+    }
+    if columns > 1_000_000 {
+        return Err((7, 0));
+    }
+    let rows = height as usize + 2 * tmax - 2;
+    let place_of = |row: usize| 14 + row * (6 + 4 * tmax);
+    let mut cells = Vec::new();
+    for row in 0..rows {
+        let place = place_of(row);
+        let start = (65_536 + row + 1 - tmax) % 65_536;
+        let opening = [(2 + 4 * tmax) as u8, 0, 17, 0, (start % 256) as u8, (start / 256) as u8];
+        if !stands(file, place, &opening) || file.len() < place_of(row + 1) {
+            return Err((16, place));
+        }
+        for thickness in 1..=tmax {
+            let cell = number_at(file, place + 2 + 4 * thickness, 4);
+            let most = if is_member(thickness) { columns * (thickness as u64 / 2) } else { 0 };
+            if cell > most {
+                return Err((6, place));
+            }
+            cells.push(cell as u32);
+        }
+    }
+    let end = place_of(rows);
+    if !stands(file, end, &[2, 0, 18, 0, (rows % 256) as u8, (rows / 256) as u8]) {
+        return Err((16, end));
+    }
+    if file.len() > end + 6 {
+        return Err((16, end + 6));
+    }
+    Ok(cells)
 }

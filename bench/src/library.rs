@@ -117,6 +117,8 @@ extern "C" {
         out: *mut u8,
         o: usize,
     ) -> Reply;
+    fn shagorent_write_table(table: *const u32, n: usize, head: Head, out: *mut u8, o: usize) -> Reply;
+    fn shagorent_read_table(input: *const u8, n: usize, table: *mut u32, t: usize) -> Tabled;
     fn shagorent_cells(height: u32, set: u32) -> Reply;
     fn shagorent_entries(height: u32, set: u32) -> Reply;
     fn shagorent_counts(height: u32, set: u32) -> Reply;
@@ -252,6 +254,14 @@ pub fn write_job(height: u32, set: u32, bound: u32, columns: Columns, out: &mut 
             out.len(),
         )
     }
+}
+
+pub fn write_table(table: &[u32], head: Head, out: &mut [u8]) -> Reply {
+    unsafe { shagorent_write_table(table.as_ptr(), table.len(), head, out.as_mut_ptr(), out.len()) }
+}
+
+pub fn read_table(input: &[u8], table: &mut [u32]) -> Tabled {
+    unsafe { shagorent_read_table(input.as_ptr(), input.len(), table.as_mut_ptr(), table.len()) }
 }
 
 pub fn cells(height: u32, set: u32) -> Reply {

@@ -1,4 +1,4 @@
-// Random plates, columns, tables, sheets, sequences and job files, good and damaged, small and full size.
+// Random plates, columns, tables, sheets, sequences, job files and table files, good and damaged, small and full size.
 
 use crate::plain::{self, Head, Plate, MOST_COLUMNS};
 use crate::random::Random;
@@ -498,4 +498,183 @@ fn record_places(file: &[u8]) -> Vec<(usize, usize)> {
         at = end;
     }
     places
+}
+
+// ---- Table files ----
+
+/// Kind 16, with whatever settings and count.
+pub fn opening_record(file: &mut Vec<u8>, head: Head) {
+    let mut body = (head.height as u16).to_le_bytes().to_vec();
+    body.extend(head.set.to_le_bytes());
+    body.extend(head.columns.to_le_bytes());
+    record(file, 16, &body);
+}
+
+pub fn row_record(file: &mut Vec<u8>, start: i64, cells: &[u32]) {
+    let mut body = (start as i16).to_le_bytes().to_vec();
+    body.extend(cells.iter().flat_map(|cell| cell.to_le_bytes()));
+    record(file, 17, &body);
+}
+
+pub fn rows_record(file: &mut Vec<u8>, rows: i64) {
+    record(file, 18, &(rows as u16).to_le_bytes());
+}
+
+/// The file of a table, with the head's settings and count and the plate's rows: good where these agree and the table is in bounds.
+pub fn table_file(plate: Plate, head: Head, cells: &[u32]) -> Vec<u8> {
+    let mut file = Vec::new();
+    opening_record(&mut file, head);
+    for (start, row) in (plate.lowest()..=plate.last_start()).zip(cells.chunks(plate.tmax as usize)) {
+        row_record(&mut file, start, row);
+    }
+    rows_record(&mut file, plate.rows());
+    file
+}
+
+/// A table's head as `named_head` gives it, the count now and then above the most.
+pub fn handed_head(random: &mut Random, plate: Plate, head: Head) -> Head {
+    let head = named_head(random, plate, head);
+    if !random.one_in(20) {
+        return head;
+    }
+    Head { columns: random.pick(&[MOST_COLUMNS + 1, MOST_COLUMNS + 1, u32::MAX]), ..head }
+}
+
+/// A table file as it might come in: good, with a fault of its own making, or damaged afterwards.
+pub fn handed_table_file(random: &mut Random, plate: Plate, size: Size) -> Vec<u8> {
+    let mut table = table(random, plate, size);
+    if random.one_in(2) {
+        damage_table(random, plate, &mut table);
+    }
+    let head = handed_head(random, plate, table.head);
+    let mut file = table_file(plate, head, &table.cells);
+    if !random.one_in(3) {
+        for _ in 0..random.pick(&[1, 1, 1, 2, 3]) {
+            damage_table_file(random, plate, &mut file);
+        }
+    }
+    file
+}
+
+fn damage_table_file(random: &mut Random, plate: Plate, file: &mut Vec<u8>) {
+    let places = record_places(file);
+    if places.len() < 3 || random.one_in(5) {
+        damage_file(random, file);
+        return;
+    }
+    let last = places.len() - 1;
+    let (any, row) = (random.pick(&places), places[1 + random.index(last - 1)]);
+    let one = random.pick(&[any, any, places[0], places[last]]);
+    match random.below(12) {
+        0 | 1 => cut_near(random, one, file),
+        2 => file.extend((0..random.pick(&[1, 1, 2, 3, 4, 6, 10])).map(|_| random.pick(&[0, 0, 2, 18, 255]))),
+        3 | 4 => {
+            let (rows, any) = (plate.rows() as u16, random.word() as u16);
+            let told = random.pick(&[rows - 1, rows + 1, rows + 256, 0, any]);
+            change(file, places[last].1 - 2, &told.to_le_bytes());
+        }
+        5 | 6 => damage_row(random, plate, row, file),
+        7 | 8 => damage_kind_or_length(random, one, file),
+        _ => move_records(random, plate, &places, file),
+    }
+}
+
+/// Puts the bytes over those at the place, as far as there are any.
+fn change(file: &mut [u8], place: usize, bytes: &[u8]) {
+    file.iter_mut().skip(place).zip(bytes).for_each(|(held, byte)| *held = *byte);
+}
+
+/// Cuts the file where a record begins, within its head or its body, or before its last byte.
+fn cut_near(random: &mut Random, (from, to): (usize, usize), file: &mut Vec<u8>) {
+    let (head, body) = (from + 1 + random.index(3), (from + 4 + random.index(to - from)).min(to));
+    file.truncate(random.pick(&[from, head, body, to - 1]));
+}
+
+/// Another start, a cell at its limit or out of bounds, or both in one row.
+fn damage_row(random: &mut Random, plate: Plate, (from, to): (usize, usize), file: &mut [u8]) {
+    let way = random.below(3);
+    if way != 1 {
+        let start = i16::from_le_bytes([file[from + 4], file[from + 5]]);
+        let any = random.word() as i16;
+        let near = [start.wrapping_add(1), start.wrapping_sub(1), start.wrapping_add(2), start ^ 256];
+        let far = [start.wrapping_neg(), start.wrapping_neg(), start ^ i16::MIN, start & 255, any];
+        let other = if random.one_in(2) { random.pick(&near) } else { random.pick(&far) };
+        change(file, from + 4, &other.to_le_bytes());
+    }
+    if way != 0 {
+        let told = file[..from].get(10..14).map_or([0; 4], |four| [four[0], four[1], four[2], four[3]]);
+        let columns = u32::from_le_bytes(told).min(MOST_COLUMNS);
+        for _ in 0..random.pick(&[1, 1, 2]) {
+            let cell = random.index(plate.tmax as usize);
+            let (limit, whole) = (plate.limit(cell, columns), columns * (cell as u32 + 1));
+            let value = random.pick(&[limit, limit + 1, limit + 1, whole, whole + 1, u32::MAX]);
+            if from + 10 + 4 * cell <= to {
+                change(file, from + 6 + 4 * cell, &value.to_le_bytes());
+            }
+        }
+    }
+}
+
+/// Another kind; another length, told only or with a body to it.
+fn damage_kind_or_length(random: &mut Random, (from, to): (usize, usize), file: &mut Vec<u8>) {
+    let any = random.word() as u16;
+    let kind = random.pick(&[16, 17, 18, 16, 17, 18, 19, 15, 1, 2, 3, 0x1110, 0x0111, 0x0112, 32_768, any]);
+    let length = (to - from - 4) as u16;
+    let near = [length.wrapping_add(1), length.wrapping_sub(1), length.wrapping_add(4), length.wrapping_sub(4)];
+    let other = if random.one_in(2) { random.pick(&near) } else { random.pick(&[length ^ 256, 0, 2, 10]) };
+    match random.below(4) {
+        0 => change(file, from, &other.to_le_bytes()),
+        1 if other < 200 => {
+            change(file, from, &other.to_le_bytes());
+            let mut body = file[from + 4..to].to_vec();
+            body.resize(usize::from(other), 0);
+            file.splice(from + 4..to, body);
+        }
+        _ => change(file, from + 2, &kind.to_le_bytes()),
+    }
+}
+
+/// Rows swapped, missing, twice or too many, below the first or past the last; an end or an opening where rows are; a remark.
+fn move_records(random: &mut Random, plate: Plate, places: &[(usize, usize)], file: &mut Vec<u8>) {
+    let mut records: Vec<Vec<u8>> = places.iter().map(|&(from, to)| file[from..to].to_vec()).collect();
+    let rest = file[places[places.len() - 1].1..].to_vec();
+    let last = records.len() - 1;
+    let (one, other) = (random.index(last + 1), random.index(last + 1));
+    let row = 1 + random.index(last - 1);
+    let zeros = vec![0; plate.tmax as usize];
+    let mut more = Vec::new();
+    match random.below(11) {
+        0 => records.swap(one, other),
+        1 => records.swap(row, (row + 1).min(last)),
+        2 => {
+            records.remove(random.pick(&[one, row, row, 1, last - 1]));
+        }
+        3 => records.insert(random.pick(&[1, other]), records[random.pick(&[0, one])].clone()),
+        4 => records.insert(row, records[row].clone()),
+        5 | 6 => {
+            row_record(&mut more, plate.last_start() + random.pick(&[1, 1, 1, 0, 2]), &zeros);
+            records.insert(last, more);
+        }
+        7 => {
+            row_record(&mut more, plate.lowest() - 1, &zeros);
+            records.insert(1, more);
+        }
+        8 => records.insert(random.pick(&[1, row, last]), records[last].clone()),
+        9 => {
+            let early = random.pick(&[1, row]);
+            records.drain(early..last);
+            if random.one_in(2) {
+                records.pop();
+                rows_record(&mut more, early as i64 - 1);
+                records.push(more);
+            }
+        }
+        _ => {
+            let body = vec![7; random.pick(&[0, 1, 12])];
+            record(&mut more, random.pick(&[32_768, 65_535]), &body);
+            records.insert(random.pick(&[0, 1, row, last, last + 1]), more);
+        }
+    }
+    *file = records.concat();
+    file.extend(rest);
 }

@@ -1,5 +1,5 @@
-// Document 01 once more, with 02's writer of job files and its b), no layer with nothing on it, in plain safe Rust: every call by its
-// definition, voxel by voxel and cell by cell.
+// Document 01 once more, with 02's a) to c), the writer of job files, no layer with nothing on it, and table files, in plain safe Rust: every
+// call by its definition, voxel by voxel and cell by cell.
 // Each call first gives the refusals in document 01's order; only after the last of them is anything lent written.
 // Heights, starts and thicknesses are i64 here, so that no difference of two inputs can overflow.
 
@@ -86,8 +86,18 @@ impl Plate {
         self.height + self.tmax - 1
     }
 
+    /// The starts of a table.
+    pub fn rows(self) -> i64 {
+        self.height + 2 * self.tmax - 2
+    }
+
     pub fn cells(self) -> usize {
-        ((self.height + 2 * self.tmax - 2) * self.tmax) as usize
+        (self.rows() * self.tmax) as usize
+    }
+
+    /// The bytes of a table file: 14 of the head, 6 and the cells of each row, 6 of the end.
+    pub fn file_bytes(self) -> usize {
+        (14 + self.rows() * (6 + 4 * self.tmax) + 6) as usize
     }
 
     /// M, the greatest count asked for: document 02, b).
@@ -690,4 +700,175 @@ fn put_record(file: &mut Vec<u8>, kind: u16, body: &[u8]) {
     file.extend((body.len() as u16).to_le_bytes());
     file.extend(kind.to_le_bytes());
     file.extend(body);
+}
+
+// ---- Sending a table: document 02, c) ----
+
+/// What a record of a table file is refused for, each of the reader's checks by its own name.
+#[derive(Clone, Copy, Debug, PartialEq, Eq, PartialOrd, Ord)]
+pub enum Fault {
+    /// Fewer than 4 bytes left.
+    CutHead,
+    /// A kind that the kinds before it do not allow: they go 16, 17 once or more, 18.
+    Kind,
+    /// A length wrong for the kind.
+    Length,
+    /// A body past the input.
+    CutBody,
+    /// A row whose start is not the next one, or is past the last.
+    Start,
+    /// Another number of rows than the settings have, or rows missing.
+    Rows,
+    /// Bytes after the end.
+    After,
+    /// 1, 2, 7 or 6, as other calls give them.
+    Refused(u32),
+}
+
+impl Fault {
+    /// Whatever is wrong with the file itself is 16, until document 02's f) tells its kinds apart.
+    pub fn number(self) -> u32 {
+        match self {
+            Fault::CutHead => 16,
+            Fault::Kind => 16,
+            Fault::Length => 16,
+            Fault::CutBody => 16,
+            Fault::Start => 16,
+            Fault::Rows => 16,
+            Fault::After => 16,
+            Fault::Refused(number) => number,
+        }
+    }
+}
+
+/// What was received of a table file: its head, and the cells of the rows so far.
+#[derive(Clone, Debug, PartialEq, Eq)]
+pub struct Received {
+    pub head: Head,
+    pub plate: Plate,
+    pub cells: Vec<u32>,
+}
+
+impl Received {
+    /// 1, 2, 7, or a table without rows so far.
+    fn open(body: &[u8]) -> Result<Received, Fault> {
+        let [height, set, columns] = [&body[..2], &body[2..6], &body[6..]].map(|bytes| number(bytes) as u32);
+        let head = Head { height, set, columns };
+        let told = |refusal: Refusal| Fault::Refused(refusal.number);
+        let plate = head.plate().map_err(told)?;
+        check_columns(columns).map_err(told)?;
+        Ok(Received { head, plate, cells: Vec::new() })
+    }
+
+    fn rows(&self) -> i64 {
+        self.cells.len() as i64 / self.plate.tmax
+    }
+
+    /// The start first, then 6.
+    fn take_row(&mut self, body: &[u8]) -> Result<(), Fault> {
+        let start = signed(&body[..2]);
+        if start != self.plate.lowest() + self.rows() || start > self.plate.last_start() {
+            return Err(Fault::Start);
+        }
+        for four in body[2..].chunks(4) {
+            let cell = number(four) as u32;
+            if cell > self.plate.limit(self.cells.len(), self.head.columns) {
+                return Err(Fault::Refused(6));
+            }
+            self.cells.push(cell);
+        }
+        Ok(())
+    }
+
+    fn check_rows(&self, body: &[u8]) -> Result<(), Fault> {
+        if number(body) as i64 != self.plate.rows() || self.rows() != self.plate.rows() {
+            return Err(Fault::Rows);
+        }
+        Ok(())
+    }
+
+    /// The record that the bytes begin with, after these.
+    fn next<'a>(received: Option<&Received>, left: &'a [u8]) -> Result<Record<'a>, Fault> {
+        if left.len() < 4 {
+            return Err(Fault::CutHead);
+        }
+        let (length, kind) = (number(&left[..2]), number(&left[2..4]) as u16);
+        let stated = match (kind, received) {
+            (16, None) => 10,
+            (17, Some(received)) => 2 + 4 * received.plate.tmax as u64,
+            (18, Some(received)) if received.rows() > 0 => 2,
+            _ => return Err(Fault::Kind),
+        };
+        if length != stated {
+            return Err(Fault::Length);
+        }
+        let body = left[4..].get(..length as usize).ok_or(Fault::CutBody)?;
+        Ok(Record { kind, body })
+    }
+}
+
+/// Two's complement, of two bytes.
+fn signed(two: &[u8]) -> i64 {
+    let unsigned = number(two) as i64;
+    if unsigned < 32_768 {
+        unsigned
+    } else {
+        unsigned - 65_536
+    }
+}
+
+/// A whole table file, or what the first record at fault is refused for and its first byte; the lent table aside.
+pub fn receive(file: &[u8]) -> Result<Received, (Fault, usize)> {
+    let mut received: Option<Received> = None;
+    let mut at = 0;
+    loop {
+        let at_record = |fault: Fault| (fault, at);
+        let record = Received::next(received.as_ref(), &file[at..]).map_err(at_record)?;
+        let next = at + 4 + record.body.len();
+        match (record.kind, &mut received) {
+            (17, Some(received)) => received.take_row(record.body).map_err(at_record)?,
+            (18, Some(held)) => {
+                held.check_rows(record.body).map_err(at_record)?;
+                if next < file.len() {
+                    return Err((Fault::After, next));
+                }
+                return Ok(received.expect("it is there"));
+            }
+            (_, none) => *none = Some(Received::open(record.body).map_err(at_record)?),
+        }
+        at = next;
+    }
+}
+
+pub fn read_table(file: &[u8], table: &mut [u32]) -> Answer<Head> {
+    let told = |(fault, at): (Fault, usize)| Refusal { number: fault.number(), place: at as u64 };
+    let Received { head, cells, .. } = receive(file).map_err(told)?;
+    check_lent(&[(table.len(), cells.len())])?;
+    table[..cells.len()].copy_from_slice(&cells);
+    Ok(head)
+}
+
+pub fn write_table(table: &[u32], head: Head, out: &mut [u8]) -> Answer<u64> {
+    let plate = head.plate()?;
+    check_lent(&[(table.len(), plate.cells())])?;
+    check_columns(head.columns)?;
+    check_cells(plate, table, head.columns)?;
+    let file = sent(plate, table, head.columns);
+    check_lent(&[(0, 0), (out.len(), file.len())])?;
+    out[..file.len()].copy_from_slice(&file);
+    Ok(file.len() as u64)
+}
+
+/// The whole file: the head, a row for each start, the number of rows.
+fn sent(plate: Plate, table: &[u32], columns: u32) -> Vec<u8> {
+    let mut file = Vec::new();
+    let height = (plate.height as u16).to_le_bytes();
+    put_record(&mut file, 16, &[&height[..], &plate.set.to_le_bytes(), &columns.to_le_bytes()].concat());
+    for start in plate.lowest()..=plate.last_start() {
+        let cells = (1..=plate.tmax).flat_map(|thickness| table[plate.cell(start, thickness)].to_le_bytes());
+        let body: Vec<u8> = (start as i16).to_le_bytes().into_iter().chain(cells).collect();
+        put_record(&mut file, 17, &body);
+    }
+    put_record(&mut file, 18, &(plate.rows() as u16).to_le_bytes());
+    file
 }

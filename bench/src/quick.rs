@@ -1,9 +1,9 @@
-// Document 01's calls, with 02's writer of job files and its b), in safe Rust written for speed, to be timed beside the library: planners with
-// the count innermost, adding after the source paper's Algorithm 1, scans row by row. All refusals are given, so the work is the same;
-// tests/quick.rs holds them to plain.rs.
+// Document 01's calls, with 02's writer of job files, its b) and its table files, in safe Rust written for speed, to be timed beside the library:
+// planners with the count innermost, adding after the source paper's Algorithm 1, scans row by row. All refusals are given, so the work is the
+// same; tests/quick.rs holds them to plain.rs.
 
 use crate::plain::{Answer, Columns, Filled, Head, Plate, Refusal, Sheets};
-use crate::plain::{MOST_BOUNDARIES, MOST_COLUMNS, NONE};
+use crate::plain::{MOST_BOUNDARIES, MOST_COLUMNS, MOST_HEIGHT, NONE};
 
 fn refuse<T>(number: u32, place: usize) -> Answer<T> {
     Err(Refusal { number, place: place as u64 })
@@ -521,4 +521,119 @@ fn write_columns(mut out: &mut [u8], columns: Columns) {
 fn write_end(out: &mut [u8], columns: usize) {
     out[..4].copy_from_slice(&[4, 0, 3, 0]);
     out[4..].copy_from_slice(&(columns as u32).to_le_bytes());
+}
+
+// ---- Sending a table ----
+
+/// 1 and 2, by the set's outermost bits: in a small table file their search would count.
+fn settings(head: Head) -> Answer<Plate> {
+    let Head { height, set, .. } = head;
+    if height == 0 || height > MOST_HEIGHT {
+        return refuse(1, 0);
+    }
+    if set == 0 {
+        return refuse(2, 0);
+    }
+    let (tmin, tmax) = (set.trailing_zeros() + 1, 32 - set.leading_zeros());
+    Ok(Plate { height: i64::from(height), set, tmin: i64::from(tmin), tmax: i64::from(tmax) })
+}
+
+/// Bytes of the record that opens the file, before the rows.
+const OPENING: usize = 14;
+/// Bytes of the record that ends it, behind the rows.
+const END: usize = 6;
+/// Bytes of a row before its cells.
+const ROW_HEAD: usize = 6;
+
+/// What stands before the cells of a row: length, kind, start.
+fn row_head(width: usize, row: usize) -> [u8; ROW_HEAD] {
+    let start = (row as i16 + 1 - width as i16).to_le_bytes();
+    [(2 + 4 * width) as u8, 0, 17, 0, start[0], start[1]]
+}
+
+fn end(rows: usize) -> [u8; END] {
+    let rows = (rows as u16).to_le_bytes();
+    [2, 0, 18, 0, rows[0], rows[1]]
+}
+
+pub fn write_table(table: &[u32], head: Head, out: &mut [u8]) -> Answer<u64> {
+    let plate = settings(head)?;
+    if table.len() < plate.cells() {
+        return refuse(3, 1);
+    }
+    if head.columns > MOST_COLUMNS {
+        return refuse(7, 0);
+    }
+    check_cells(plate, table, head.columns)?;
+    let (width, size) = (plate.tmax as usize, plate.file_bytes());
+    if out.len() < size {
+        return refuse(3, 2);
+    }
+    let (opening, rest) = out[..size].split_at_mut(OPENING);
+    opening[..4].copy_from_slice(&[10, 0, 16, 0]);
+    opening[4..6].copy_from_slice(&(head.height as u16).to_le_bytes());
+    opening[6..10].copy_from_slice(&head.set.to_le_bytes());
+    opening[10..].copy_from_slice(&head.columns.to_le_bytes());
+    let mut records = rest.chunks_exact_mut(ROW_HEAD + 4 * width);
+    for (row, (record, cells)) in (&mut records).zip(table.chunks_exact(width)).enumerate() {
+        let (head, body) = record.split_at_mut(ROW_HEAD);
+        head.copy_from_slice(&row_head(width, row));
+        for (four, cell) in body.chunks_exact_mut(4).zip(cells) {
+            four.copy_from_slice(&cell.to_le_bytes());
+        }
+    }
+    records.into_remainder().copy_from_slice(&end(plate.rows() as usize));
+    Ok(size as u64)
+}
+
+fn cell(four: &[u8]) -> u32 {
+    u32::from_le_bytes([four[0], four[1], four[2], four[3]])
+}
+
+/// Judged in one pass, filled in a second: what is not the one row or end that can stand at its place is 16 there.
+pub fn read_table(file: &[u8], table: &mut [u32]) -> Answer<Head> {
+    let Some((opening, rest)) = file.split_at_checked(OPENING) else {
+        return refuse(16, 0);
+    };
+    if opening[..4] != [10, 0, 16, 0] {
+        return refuse(16, 0);
+    }
+    let height = u16::from_le_bytes([opening[4], opening[5]]);
+    let head = Head { height: u32::from(height), set: cell(&opening[6..10]), columns: cell(&opening[10..]) };
+    let plate = settings(head)?;
+    if head.columns > MOST_COLUMNS {
+        return refuse(7, 0);
+    }
+    let (width, rows) = (plate.tmax as usize, plate.rows() as usize);
+    let stride = ROW_HEAD + 4 * width;
+    let limits = &limits(plate, head.columns)[..width];
+    let records = rest.chunks_exact(stride).take(rows);
+    for (row, record) in records.clone().enumerate() {
+        let (head, body) = record.split_at(ROW_HEAD);
+        if head != row_head(width, row) {
+            return refuse(16, OPENING + row * stride);
+        }
+        if body.chunks_exact(4).zip(limits).fold(false, |bad, (four, &limit)| bad | (cell(four) > limit)) {
+            return refuse(6, OPENING + row * stride);
+        }
+    }
+    if records.len() < rows {
+        return refuse(16, OPENING + records.len() * stride);
+    }
+    let after = &rest[rows * stride..];
+    if !after.starts_with(&end(rows)) {
+        return refuse(16, OPENING + rows * stride);
+    }
+    if after.len() > END {
+        return refuse(16, OPENING + rows * stride + END);
+    }
+    if table.len() < plate.cells() {
+        return refuse(3, 1);
+    }
+    for (record, cells) in records.zip(table.chunks_exact_mut(width)) {
+        for (four, held) in record[ROW_HEAD..].chunks_exact(4).zip(cells) {
+            *held = cell(four);
+        }
+    }
+    Ok(head)
 }

@@ -81,6 +81,62 @@ pub const FAULTS: &[&str] = &[
     "recount: the two rules come after the layers",
     "picture: a layer wholly under or over the plate is 13",
     "read job: 17 by document 01's M",
+    "read table: a row's start is not compared",
+    "read table: a start's high byte is not compared",
+    "read table: a kind's high byte is not looked at",
+    "read table: a row's length may be other than its cells'",
+    "read table: the end's number of rows is not compared",
+    "read table: rows missing are let through if those are told that came",
+    "read table: a row too many is let through",
+    "read table: remarks are skipped",
+    "read table: bytes after the end are let through",
+    "read table: fewer than 4 bytes after the end are let through",
+    "read table: the end's body may be cut off",
+    "read table: 6 against the count times t",
+    "read table: a cell of a thickness that is not allowed is let through",
+    "read table: 7 is not asked",
+    "read table: 6 at the cell's index",
+    "read table: 6 comes before another start",
+    "read table: a row that skips one is told at the end",
+    "read table: 2 comes before 1",
+    "read table: 7 comes before 1 and 2",
+    "read table: 7 at the count's own bytes",
+    "read table: 3 comes before the file's faults",
+    "read table: 3 is at 2",
+    "read table: a longer table is refused",
+    "read table: rows are stored as they are judged",
+    "read table: the table is written before the last record is judged",
+    "read table: the column count is dropped",
+    "read table: a refusal still answers the settings",
+    "read table: the last row is not stored",
+    "read table: cells lose their third byte",
+    "read table: one cell past the table is written",
+    "read table: the rest of the table is cleared",
+    "read table: the file is written",
+    "write table: the last row is not written",
+    "write table: the column count is dropped",
+    "write table: a start's sign is lost",
+    "write table: rows begin at 1",
+    "write table: the end tells one row less",
+    "write table: a row's length is that of its cells alone",
+    "write table: thicknesses fall",
+    "write table: cells lose their third byte",
+    "write table: the end is not in the length",
+    "write table: the rest of the output is cleared",
+    "write table: one byte past the file is written",
+    "write table: a cell is written",
+    "write table: cells past the table are looked at",
+    "write table: a longer table is refused",
+    "write table: 6 against the count times t",
+    "write table: a cell of a thickness that is not allowed is let through",
+    "write table: 6 at the highest such cell",
+    "write table: 6 at the row's record",
+    "write table: 7 comes before 3 for the table",
+    "write table: 6 comes before 7",
+    "write table: 3 for the output comes before 6",
+    "write table: 3 for the output is at 3",
+    "write table: a byte is written though 6 is answered",
+    "write table: the opening is written though 3 is answered",
 ];
 
 fn fault() -> usize {
@@ -659,6 +715,364 @@ fn refused_wrongly(columns: Columns, room: usize, answer: Answer<u64>) -> Answer
         {
             refused(3, 2)
         }
+        _ => answer,
+    }
+}
+
+// ---- Table files ----
+
+/// Where the records of a table file stand by what its first bytes say, whatever stands there.
+#[derive(Clone, Copy)]
+struct Laid {
+    head: Head,
+    plate: Plate,
+}
+
+impl Laid {
+    fn of(file: &[u8]) -> Option<Laid> {
+        let head = told(file)?;
+        head.plate().ok().map(|plate| Laid { head, plate })
+    }
+
+    fn stride(self) -> usize {
+        6 + 4 * self.plate.tmax as usize
+    }
+
+    fn end(self) -> usize {
+        self.plate.file_bytes() - 6
+    }
+
+    /// The rows' places, so far as the file has the whole of them.
+    fn rows(self, file: &[u8]) -> Vec<usize> {
+        let places = (14..self.end()).step_by(self.stride());
+        places.take_while(|place| place + self.stride() <= file.len()).collect()
+    }
+
+    fn start(self, place: usize) -> [u8; 2] {
+        let row = (place - 14) / self.stride();
+        ((self.plate.lowest() + row as i64) as i16).to_le_bytes()
+    }
+
+    /// The cells of the row at the place.
+    fn cells(self, file: &[u8], place: usize) -> Vec<u32> {
+        file[place + 6..place + self.stride()].chunks(4).map(four).collect()
+    }
+
+    /// The cells of the row at the place that are out of bounds.
+    fn over(self, file: &[u8], place: usize) -> Vec<usize> {
+        let columns = self.head.columns.min(plain::MOST_COLUMNS);
+        let cells = self.cells(file, place);
+        (0..cells.len()).filter(|&cell| cells[cell] > self.plate.limit(cell, columns)).collect()
+    }
+}
+
+fn four(bytes: &[u8]) -> u32 {
+    u32::from_le_bytes([bytes[0], bytes[1], bytes[2], bytes[3]])
+}
+
+/// What an opening's bytes say, of a file that has them.
+fn told(file: &[u8]) -> Option<Head> {
+    let opening = file.get(..14)?;
+    let height = u16::from_le_bytes([opening[4], opening[5]]);
+    Some(Head { height: height.into(), set: four(&opening[6..]), columns: four(&opening[10..]) })
+}
+
+/// The most that a cell may hold, where a limit is planted that is none.
+fn wrong_limit(call: &str, plate: Plate, cell: usize, columns: u32) -> Option<u64> {
+    let (_, thickness) = plate.layer(cell);
+    let (allowed, planted) = (plate.allows(thickness), |fault: &str| is(&format!("{call}: {fault}")));
+    if planted("6 against the count times t") && allowed {
+        Some(u64::from(columns) * thickness as u64)
+    } else if planted("a cell of a thickness that is not allowed is let through") && !allowed {
+        Some(u64::MAX)
+    } else {
+        None
+    }
+}
+
+/// The file as a reader takes it that lets the planted fault through: mended there.
+fn mended(file: &[u8]) -> Vec<u8> {
+    let mut mended = file.to_vec();
+    if is("read table: remarks are skipped") {
+        drop_remarks(&mut mended);
+    }
+    if is("read table: 7 is not asked") && told(file).is_some_and(|head| head.columns > plain::MOST_COLUMNS) {
+        mended[10..14].copy_from_slice(&plain::MOST_COLUMNS.to_le_bytes());
+    }
+    if let Some(laid) = Laid::of(&mended) {
+        mend_rows(laid, &mut mended);
+        mend_end(laid, &mut mended);
+    }
+    mended
+}
+
+fn drop_remarks(file: &mut Vec<u8>) {
+    let mut at = 0;
+    while at + 4 <= file.len() {
+        let next = at + 4 + usize::from(u16::from_le_bytes([file[at], file[at + 1]]));
+        if file[at + 3] >= 128 && next <= file.len() {
+            file.drain(at..next);
+        } else {
+            at = next;
+        }
+    }
+}
+
+fn mend_rows(laid: Laid, file: &mut [u8]) {
+    for place in laid.rows(file) {
+        if is("read table: a row's start is not compared") {
+            file[place + 4..place + 6].copy_from_slice(&laid.start(place));
+        }
+        if is("read table: a start's high byte is not compared") {
+            file[place + 5] = laid.start(place)[1];
+        }
+        if is("read table: a kind's high byte is not looked at") {
+            file[place + 3] = 0;
+        }
+        if is("read table: a row's length may be other than its cells'") {
+            file[place..place + 2].copy_from_slice(&(laid.stride() as u16 - 4).to_le_bytes());
+        }
+        for cell in laid.over(file, place) {
+            let at = place + 6 + 4 * cell;
+            let limit = wrong_limit("read table", laid.plate, cell, laid.head.columns);
+            if limit.is_some_and(|limit| u64::from(four(&file[at..])) <= limit) {
+                file[at..at + 4].fill(0);
+            }
+        }
+    }
+}
+
+fn mend_end(laid: Laid, file: &mut Vec<u8>) {
+    let (end, size) = (laid.end(), laid.plate.file_bytes());
+    let rows = (laid.plate.rows() as u16).to_le_bytes();
+    if file.len() >= size && is("read table: the end's number of rows is not compared") {
+        file[size - 2..size].copy_from_slice(&rows);
+    }
+    if file.len() < size && file[..].get(end..end + 4).is_some() && is("read table: the end's body may be cut off") {
+        file.truncate(end + 4);
+        file.extend(rows);
+    }
+    if file.len() > size && is("read table: bytes after the end are let through") {
+        file.truncate(size);
+    }
+    if (size..size + 4).contains(&file.len()) && is("read table: fewer than 4 bytes after the end are let through") {
+        file.truncate(size);
+    }
+    let next = (laid.plate.last_start() + 1).to_le_bytes();
+    let is_row = |record: &[u8]| record[2..4] == [17, 0] && record[4..6] == next[..2];
+    if file.get(end..end + laid.stride()).is_some_and(is_row) && is("read table: a row too many is let through") {
+        file.drain(end..end + laid.stride());
+    }
+    let came = file.len().saturating_sub(20) / laid.stride();
+    let ends_early = came > 0 && file.len() < size && file.ends_with(&[2, 0, 18, 0, came as u8, 0]);
+    if ends_early && is("read table: rows missing are let through if those are told that came") {
+        file.truncate(file.len() - 6);
+        for place in (14 + came * laid.stride()..end).step_by(laid.stride()) {
+            file.truncate(place);
+            file.extend([laid.stride() as u8 - 4, 0, 17, 0]);
+            file.extend(laid.start(place));
+            file.resize(place + laid.stride(), 0);
+        }
+        file.extend([2, 0, 18, 0, rows[0], rows[1]]);
+    }
+}
+
+#[no_mangle]
+unsafe extern "C" fn shagorent_read_table(input: *const u8, n: usize, table: *mut u32, t: usize) -> Tabled {
+    let (file, lent) = (lent(input, n), lent_mut(table, t));
+    let before = lent.to_vec();
+    let answer = plain::read_table(&mended(file), lent);
+    match (answer, Laid::of(file)) {
+        (Ok(head), laid) => {
+            let answer = received_wrongly(file, head, &before, lent);
+            if is("read table: one cell past the table is written") {
+                *table.add(head.plate().unwrap().cells()) = 0;
+            }
+            if laid.is_some() && is("read table: the file is written") {
+                *input.cast_mut() ^= 1;
+            }
+            as_tabled(answer)
+        }
+        (Err(refusal), laid) => {
+            let answer = not_received_wrongly(file, refusal, laid, lent);
+            let mut tabled = as_tabled(answer);
+            if is("read table: a refusal still answers the settings") {
+                tabled.head = told(file).unwrap_or(tabled.head);
+            }
+            tabled
+        }
+    }
+}
+
+/// The answer where the file was read, and what the table then holds.
+fn received_wrongly(file: &[u8], head: Head, before: &[u32], table: &mut [u32]) -> Answer<Head> {
+    let plate = head.plate().unwrap();
+    let (cells, width) = (plate.cells(), plate.tmax as usize);
+    if table.len() > cells && is("read table: a longer table is refused") {
+        table.copy_from_slice(before);
+        return Err(Refusal { number: 3, place: 1 });
+    }
+    if is("read table: the last row is not stored") {
+        table[cells - width..cells].copy_from_slice(&before[cells - width..cells]);
+    }
+    if is("read table: cells lose their third byte") {
+        table[..cells].iter_mut().for_each(|cell| *cell &= 0xFFFF);
+    }
+    if is("read table: the rest of the table is cleared") {
+        table[cells..].fill(0);
+    }
+    let columns = if is("read table: the column count is dropped") { 0 } else { told(file).unwrap_or(head).columns };
+    Ok(Head { columns, ..head })
+}
+
+/// The answer where the file was refused, and what the table then holds.
+fn not_received_wrongly(file: &[u8], refusal: Refusal, laid: Option<Laid>, table: &mut [u32]) -> Answer<Head> {
+    let Refusal { number, place } = refusal;
+    let at = |number: u32, place: usize| Err(Refusal { number, place: place as u64 });
+    let too_many = told(file).is_some_and(|head| head.columns > plain::MOST_COLUMNS);
+    match number {
+        1 if told(file).unwrap().set == 0 && is("read table: 2 comes before 1") => return at(2, 0),
+        1 | 2 if too_many && is("read table: 7 comes before 1 and 2") => return at(7, 0),
+        7 if is("read table: 7 at the count's own bytes") => return at(7, 10),
+        3 if is("read table: 3 is at 2") => return at(3, 2),
+        _ => {}
+    }
+    let Some(laid) = laid.filter(|_| number != 7) else { return Err(refusal) };
+    if table.len() < laid.plate.cells() && is("read table: 3 comes before the file's faults") {
+        return at(3, 1);
+    }
+    let (place, rows) = (place as usize, laid.rows(file));
+    if place > laid.end() || place == laid.end() && rows.len() as i64 == laid.plate.rows() {
+        if is("read table: the table is written before the last record is judged") {
+            store(laid, file, &rows, table);
+        }
+    } else if rows.contains(&place) {
+        let row = (place - 14) / laid.stride();
+        let over = laid.over(file, place);
+        if is("read table: rows are stored as they are judged") {
+            store(laid, file, &rows[..row], table);
+        }
+        if number == 6 && is("read table: 6 at the cell's index") {
+            return at(6, row * laid.plate.tmax as usize + over[0]);
+        }
+        let is_row = file[place..place + 4] == [laid.stride() as u8 - 4, 0, 17, 0];
+        if number == 16 && is_row && !over.is_empty() && is("read table: 6 comes before another start") {
+            return at(6, place);
+        }
+        let skips = is_row && file[place + 4..place + 6] == laid.start(place + laid.stride());
+        if number == 16 && skips && is("read table: a row that skips one is told at the end") {
+            return at(16, file.len() - 6);
+        }
+    }
+    Err(refusal)
+}
+
+/// The cells of these rows, so far as there is room.
+fn store(laid: Laid, file: &[u8], rows: &[usize], table: &mut [u32]) {
+    let cells = rows.iter().flat_map(|&place| laid.cells(file, place));
+    table.iter_mut().zip(cells).for_each(|(held, cell)| *held = cell);
+}
+
+#[no_mangle]
+unsafe extern "C" fn shagorent_write_table(table: *const u32, n: usize, head: Head, out: *mut u8, o: usize) -> Reply {
+    let (cells, room) = (lent(table, n), lent_mut(out, o));
+    let before = room.to_vec();
+    let answer = plain::write_table(cells, head, room);
+    let Ok(size) = answer else {
+        return as_reply(not_sent_wrongly(cells, head, answer, room));
+    };
+    let (plate, size) = (head.plate().unwrap(), size as usize);
+    send_wrongly(Laid { head, plate }, &before, &mut room[..size]);
+    if is("write table: the rest of the output is cleared") {
+        room[size..].fill(0);
+    }
+    if is("write table: one byte past the file is written") {
+        *out.add(size) = 0;
+    }
+    let told = sent_wrongly(cells, head, plate, answer);
+    if is("write table: a cell is written") {
+        *table.cast_mut() += 1;
+    }
+    as_reply(told)
+}
+
+/// The bytes of the file.
+fn send_wrongly(laid: Laid, before: &[u8], file: &mut [u8]) {
+    let size = file.len();
+    if is("write table: the column count is dropped") {
+        file[10..14].fill(0);
+    }
+    if is("write table: the end tells one row less") {
+        file[size - 2..].copy_from_slice(&(laid.plate.rows() as u16 - 1).to_le_bytes());
+    }
+    for (row, place) in laid.rows(file).into_iter().enumerate() {
+        let record = &mut file[place..place + laid.stride()];
+        let start = laid.plate.lowest() as i16 + row as i16;
+        if is("write table: the last row is not written") && place + laid.stride() == laid.end() {
+            record.copy_from_slice(&before[place..place + laid.stride()]);
+        }
+        if is("write table: a start's sign is lost") {
+            record[4..6].copy_from_slice(&start.abs().to_le_bytes());
+        }
+        if is("write table: rows begin at 1") {
+            record[4..6].copy_from_slice(&(row as u16 + 1).to_le_bytes());
+        }
+        if is("write table: a row's length is that of its cells alone") {
+            record[0] -= 2;
+        }
+        if is("write table: thicknesses fall") {
+            let cells: Vec<u8> = record[6..].chunks(4).rev().flatten().copied().collect();
+            record[6..].copy_from_slice(&cells);
+        }
+        if is("write table: cells lose their third byte") {
+            record[6..].chunks_mut(4).for_each(|cell| cell[2] = 0);
+        }
+    }
+}
+
+/// The answer where the table was written.
+fn sent_wrongly(cells: &[u32], head: Head, plate: Plate, answer: Answer<u64>) -> Answer<u64> {
+    let past = &cells[plate.cells()..];
+    if !past.is_empty() && is("write table: a longer table is refused") {
+        return refused(3, 1);
+    }
+    if is("write table: cells past the table are looked at") {
+        let over = |&cell: &usize| cells[cell] > plate.limit(cell, head.columns);
+        return (plate.cells()..cells.len()).find(over).map_or(answer, |cell| refused(6, cell));
+    }
+    if is("write table: the end is not in the length") {
+        return answer.map(|size| size - 6);
+    }
+    answer
+}
+
+/// The answer where the table was refused, and what the output then holds.
+fn not_sent_wrongly(cells: &[u32], head: Head, answer: Answer<u64>, out: &mut [u8]) -> Answer<u64> {
+    let Refusal { number, place } = answer.expect_err("it is refused");
+    let Ok(plate) = head.plate() else { return answer };
+    let columns = head.columns.min(plain::MOST_COLUMNS);
+    let over = |&cell: &usize| cells[cell] > plate.limit(cell, columns);
+    let mut faults = (0..plate.cells().min(cells.len())).filter(over);
+    if number == 6 && !out.is_empty() && is("write table: a byte is written though 6 is answered") {
+        out[0] ^= 1;
+    }
+    if (number, place) == (3, 2) && out.len() >= 14 && is("write table: the opening is written though 3 is answered") {
+        out[..4].copy_from_slice(&[10, 0, 16, 0]);
+    }
+    let passes = |cell: usize| {
+        wrong_limit("write table", plate, cell, columns).is_some_and(|limit| u64::from(cells[cell]) <= limit)
+    };
+    let is_short = out.len() < plate.file_bytes();
+    match (number, place) {
+        (3, 1) if head.columns > columns && is("write table: 7 comes before 3 for the table") => refused(7, 0),
+        (3, 2) if is("write table: 3 for the output is at 3") => refused(3, 3),
+        (7, _) if is("write table: 6 comes before 7") => faults.next().map_or(answer, |cell| refused(6, cell)),
+        (6, _) if is_short && is("write table: 3 for the output comes before 6") => refused(3, 2),
+        (6, _) if is("write table: 6 at the highest such cell") => refused(6, faults.next_back().unwrap()),
+        (6, _) if is("write table: 6 at the row's record") => {
+            refused(6, 14 + place as usize / plate.tmax as usize * Laid { head, plate }.stride())
+        }
+        (6, _) => faults.find(|&cell| !passes(cell)).map_or(Ok(plate.file_bytes() as u64), |cell| refused(6, cell)),
         _ => answer,
     }
 }

@@ -1,6 +1,6 @@
 // The plain implementation against the listing of every sequence, on many small random plates and bounds: the table, both sheets, the
-// list, every sequence read back, sheets that hold anything, recounts of good and bad sequences, pictures, tables joined and taken off, and job
-// files, read and saved.
+// list, every sequence read back, sheets that hold anything, recounts of good and bad sequences, pictures, tables joined and taken off, job
+// files, read and saved, and tables sent.
 
 use bench::brute;
 use bench::make;
@@ -251,6 +251,81 @@ fn saved_files_agree() {
         file.extend([99; 5]);
         assert_eq!(out, file, "case {case}");
     }
+}
+
+/// What is sent is the file of these cells, and is read as they are; cut anywhere, it is refused at the record that is cut.
+#[test]
+fn sent_tables_agree() {
+    for case in 0..PLATES {
+        let (sample, _) = sample(case);
+        let (file, places) = table_file_of(&sample);
+        let mut out = vec![99; file.len() + 5];
+        let size = file.len() as u64;
+        assert_eq!(write_table(&sample.table, sample.head, &mut out), Ok(size), "case {case}");
+        assert_eq!(out, [&file[..], &[99; 5]].concat(), "case {case}");
+        let mut table = vec![99; sample.table.len() + 3];
+        assert_eq!(read_table(&file, &mut table), Ok(sample.head), "case {case}");
+        assert_eq!(table, [&sample.listed.table()[..], &[99; 3]].concat(), "case {case}");
+        for length in 0..file.len() {
+            let place = *places.iter().filter(|&&place| place <= length).max().unwrap();
+            let refusal = Refusal { number: 16, place: place as u64 };
+            assert_eq!(read_table(&file[..length], &mut table), Err(refusal), "case {case}, {length}");
+        }
+    }
+}
+
+/// Files good and damaged, read record by record and by the places of their bytes; those that are read are written again as they were.
+#[test]
+fn table_files_agree() {
+    for case in 0..5 * PLATES {
+        let mut random = Random::new(SEED, case);
+        let size = make::size(&mut random);
+        let plate = make::plate(&mut random, size);
+        let file = make::handed_table_file(&mut random, plate, size);
+        let mut table = vec![99; MOST_CELLS];
+        let answer = read_table(&file, &mut table);
+        match brute::cells_of_file(&file) {
+            Err((number, place)) => {
+                assert_eq!(answer, Err(Refusal { number, place: place as u64 }), "case {case}");
+                assert_eq!(table, [99; MOST_CELLS], "case {case}");
+            }
+            Ok(cells) => {
+                let head = answer.unwrap_or_else(|refusal| panic!("case {case}: {refusal:?}"));
+                assert_eq!(table[..cells.len()], cells, "case {case}");
+                assert!(table[cells.len()..].iter().all(|&cell| cell == 99), "case {case}");
+                let mut out = vec![99; file.len()];
+                assert_eq!(write_table(&cells, head, &mut out), Ok(file.len() as u64), "case {case}");
+                assert!(out == file, "case {case}");
+            }
+        }
+    }
+}
+
+const MOST_CELLS: usize = 18_368;
+
+/// The sample's table as a file, and where its records begin.
+fn table_file_of(sample: &Sample) -> (Vec<u8>, Vec<usize>) {
+    let (mut file, mut places) = (Vec::new(), vec![0]);
+    let (height, tmax) = (sample.listed.height, sample.listed.tmax());
+    let mut head = (height as u16).to_le_bytes().to_vec();
+    head.extend(sample.head.set.to_le_bytes());
+    head.extend((sample.listed.columns.len() as u32).to_le_bytes());
+    record(&mut file, 16, &head);
+    let mut rows: u16 = 0;
+    for start in 1 - tmax..=height + tmax - 2 {
+        places.push(file.len());
+        let mut row = (start as i16).to_le_bytes().to_vec();
+        for thickness in 1..=tmax {
+            let allowed = sample.listed.set.contains(&thickness);
+            let error = if allowed { brute::layer_error(&sample.listed.columns, start, thickness) } else { 0 };
+            row.extend(error.to_le_bytes());
+        }
+        record(&mut file, 17, &row);
+        rows += 1;
+    }
+    places.push(file.len());
+    record(&mut file, 18, &rows.to_le_bytes());
+    (file, places)
 }
 
 fn record(file: &mut Vec<u8>, kind: u16, body: &[u8]) {

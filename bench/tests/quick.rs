@@ -124,3 +124,39 @@ fn writing_agrees() {
         }
     }
 }
+
+#[test]
+fn sending_agrees() {
+    for case in 0..CASES {
+        let mut random = Random::new(SEED, case);
+        let size = make::size(&mut random);
+        let plate = make::plate(&mut random, size);
+        let mut table = make::table(&mut random, plate, size);
+        make::damage_table(&mut random, plate, &mut table);
+        let head = make::handed_head(&mut random, plate, table.head);
+        let (length, room) = (make::length(&mut random, plate.cells()), make::length(&mut random, plate.file_bytes()));
+        table.cells.resize(length, u32::MAX);
+        let run = |call: fn(&[u32], Head, &mut [u8]) -> plain::Answer<u64>| {
+            let mut out = vec![9; room];
+            (call(&table.cells, head, &mut out), out)
+        };
+        assert!(run(quick::write_table) == run(plain::write_table), "case {case}");
+    }
+}
+
+#[test]
+fn receiving_agrees() {
+    for case in 0..4 * CASES {
+        let mut random = Random::new(SEED, case);
+        let size = make::size(&mut random);
+        let plate = make::plate(&mut random, size);
+        let file = make::handed_table_file(&mut random, plate, size);
+        let length = make::length(&mut random, plate.cells());
+        let run = |call: fn(&[u8], &mut [u32]) -> plain::Answer<Head>| {
+            let mut table = vec![9; length];
+            (call(&file, &mut table), table)
+        };
+        let expected = run(plain::read_table);
+        assert!(run(quick::read_table) == expected, "case {case}, {:?}", expected.0);
+    }
+}

@@ -1,8 +1,9 @@
-// The random input reaches both sides of document 02's b), alone and beside other faults: else the comparison would see nothing of it.
+// The random input reaches both sides of document 02's b) and of each rule of its table files, alone and beside other faults: else the comparison
+// would see nothing of it.
 
 use bench::brute;
 use bench::make::{self, Sheets};
-use bench::plain::{self, Filled, Plate};
+use bench::plain::{self, Fault, Filled, Head, Plate, Received, MOST_COLUMNS};
 use bench::random::Random;
 use std::collections::BTreeMap;
 
@@ -109,4 +110,197 @@ fn named(plate: Plate, sheets: &Sheets, count: usize) -> Vec<i64> {
     let listed = brute::Plate { height: plate.height, set, columns: vec![], bound: u32::MAX };
     let end = (plate.height..=plate.highest()).min_by_key(|&z| sheets.errors[plate.entry(z, count)]).unwrap();
     listed.named(end, count, |z, layer| i64::from(sheets.thicknesses[plate.entry(z, layer)]))
+}
+
+/// Two files a case, as a round of the comparison has.
+#[test]
+fn table_files_reach_both_sides() {
+    let mut seen = Seen::new();
+    for case in 0..2 * CASES {
+        let mut random = Random::new(SEED, case);
+        let size = make::size(&mut random);
+        let plate = make::plate(&mut random, size);
+        let file = make::handed_table_file(&mut random, plate, size);
+        match plain::receive(&file) {
+            Ok(received) => see_received(&mut seen, &received, make::length(&mut random, plate.cells())),
+            Err((fault, place)) => see_fault(&mut seen, &file, fault, place),
+        }
+    }
+    check(&seen);
+}
+
+/// Of a good file, into a table of so many cells.
+fn see_received(seen: &mut Seen, received: &Received, length: usize) {
+    let Received { head, plate, cells } = received;
+    let limit = |cell: usize| plate.limit(cell, head.columns);
+    note(seen, "good", true);
+    note(seen, "good, some cell above 0 at its limit", (0..cells.len()).any(|i| cells[i] > 0 && cells[i] == limit(i)));
+    note(seen, "good, the most columns", head.columns == MOST_COLUMNS);
+    note(seen, "good, no columns", head.columns == 0);
+    note(seen, "good, starts below 0", plate.tmax > 1);
+    note(seen, "good, starts from 256 on", plate.last_start() >= 256);
+    note(seen, "good, N is 512", plate.height == 512);
+    note(seen, "good, tmax is 32", plate.tmax == 32);
+    note(seen, "good, thicknesses that are not allowed", plate.thicknesses().count() < plate.tmax as usize);
+    note(seen, "good, a table of its own length", length == cells.len());
+    note(seen, "good, a longer table", length > cells.len());
+    note(seen, "good, a table one cell too short", length + 1 == cells.len());
+}
+
+/// What the file says at its first bytes, whether that is an opening or not.
+fn told(file: &[u8]) -> Option<(Head, Plate)> {
+    let number = |from: usize, to: usize| file[from..to].iter().rev().fold(0, |sum, &byte| sum << 8 | u32::from(byte));
+    if file.len() < 14 {
+        return None;
+    }
+    let head = Head { height: number(4, 6), set: number(6, 10), columns: number(10, 14) };
+    head.plate().ok().map(|plate| (head, plate))
+}
+
+/// Of a file with a fault at the record that begins here.
+fn see_fault(seen: &mut Seen, file: &[u8], fault: Fault, place: usize) {
+    let left = &file[place..];
+    let two = |at: usize| left.get(at..at + 2).map(|two| u16::from_le_bytes([two[0], two[1]]));
+    let (length, kind, body) = (two(0), two(2), left.get(4..).unwrap_or(&[]));
+    note(seen, "no record at all", fault == Fault::CutHead && place == 0);
+    note(seen, "a head cut off", fault == Fault::CutHead && !left.is_empty());
+    note(seen, "cut where a record ends", fault == Fault::CutHead && left.is_empty() && place > 0);
+    let at_first = fault == Fault::Kind && place == 0;
+    note(seen, "a row first", at_first && kind == Some(17));
+    note(seen, "another kind first", at_first && kind != Some(17) && kind != Some(18));
+    let after_opening = fault == Fault::Kind && place == 14;
+    note(seen, "an end straight after the opening", after_opening && kind == Some(18));
+    note(seen, "an opening after the opening", after_opening && kind == Some(16));
+    let after_row = fault == Fault::Kind && place > 14;
+    note(seen, "an opening after a row", after_row && kind == Some(16));
+    note(seen, "a remark", fault == Fault::Kind && kind.is_some_and(|kind| kind >= 32_768));
+    note(seen, "a kind with another high byte", {
+        fault == Fault::Kind && kind.is_some_and(|kind| kind > 255 && (16..=18).contains(&(kind % 256)))
+    });
+    note(seen, "another kind and another length", {
+        fault == Fault::Kind && kind.is_some_and(|kind| kind > 18) && length.is_some_and(|length| length < 2)
+    });
+    let wrong_length = |wanted: u16| fault == Fault::Length && kind == Some(wanted);
+    note(seen, "an opening's length", wrong_length(16));
+    note(seen, "a row's length", wrong_length(17));
+    note(seen, "an end's length", wrong_length(18));
+    note(seen, "another length, and its body cut off", fault == Fault::Length && length > Some(body.len() as u16));
+    let cut_body = |wanted: u16| fault == Fault::CutBody && kind == Some(wanted);
+    note(seen, "an opening's body cut off", cut_body(16));
+    note(seen, "a row's body cut off", cut_body(17));
+    note(seen, "an end's body cut off", cut_body(18));
+    note(seen, "bytes after the end, fewer than 4", fault == Fault::After && left.len() < 4);
+    note(seen, "bytes after the end, 4 or more", fault == Fault::After && left.len() >= 4);
+    for (name, number) in [("1", 1), ("2", 2), ("7", 7), ("6", 6)] {
+        note(seen, name, fault == Fault::Refused(number));
+    }
+    note(seen, "7 by one column", fault == Fault::Refused(7) && file[10..14] == (MOST_COLUMNS + 1).to_le_bytes());
+    if let Some((head, plate)) = told(file).filter(|(head, _)| head.columns <= MOST_COLUMNS) {
+        see_contents(seen, file, head, plate, fault, place);
+    }
+}
+
+/// Of a file whose opening is good: what stands in the row or the end at fault, and what else is at fault there or later.
+fn see_contents(seen: &mut Seen, file: &[u8], head: Head, plate: Plate, fault: Fault, place: usize) {
+    let left = &file[place..];
+    let stride = 6 + 4 * plate.tmax as usize;
+    let row = place.saturating_sub(14) / stride;
+    let cells = |record: &[u8]| -> Vec<u32> {
+        record[6..stride].chunks(4).map(|four| u32::from_le_bytes([four[0], four[1], four[2], four[3]])).collect()
+    };
+    let over = |record: &[u8]| -> Vec<usize> {
+        let cells = cells(record);
+        (0..cells.len()).filter(|&cell| cells[cell] > plate.limit(cell, head.columns)).collect()
+    };
+    if matches!(fault, Fault::Start | Fault::Refused(6)) {
+        let (start, due) = (i64::from(i16::from_le_bytes([left[4], left[5]])), plate.lowest() + row as i64);
+        let is_start = fault == Fault::Start;
+        note(seen, "a row skipped", is_start && start == due + 1 && start <= plate.last_start());
+        note(seen, "a row twice", is_start && start == due - 1);
+        note(seen, "the first row skipped", is_start && row == 0 && start == due + 1);
+        note(seen, "a row below the first", is_start && row == 0 && start == due - 1);
+        note(seen, "a row too many", is_start && start == due && start > plate.last_start());
+        note(seen, "a start without its sign", is_start && due < 0 && start == -due);
+        note(seen, "a start with another high byte", is_start && start != due && (start - due) % 256 == 0);
+        note(
+            seen,
+            "another start, and a cell out of bounds",
+            is_start && start <= plate.last_start() && !over(left).is_empty(),
+        );
+        let whole = |cell: usize| u64::from(head.columns) * (cell as u64 + 1);
+        let cells = cells(left);
+        let is_cell = fault == Fault::Refused(6);
+        let (one, first) = (over(left).len() == 1, over(left).first().copied().unwrap_or(0));
+        note(seen, "6 by one", is_cell && one && cells[first] == plate.limit(first, head.columns) + 1);
+        note(
+            seen,
+            "6, and no cell above the count times t",
+            is_cell && {
+                over(left).iter().all(|&cell| plate.allows(cell as i64 + 1) && u64::from(cells[cell]) <= whole(cell))
+            },
+        );
+        note(
+            seen,
+            "6 by a thickness that is not allowed alone",
+            is_cell && { over(left).iter().all(|&cell| !plate.allows(cell as i64 + 1)) },
+        );
+        note(seen, "6, and not in the first cell", is_cell && first > 0);
+        note(seen, "6 in the first row", is_cell && row == 0);
+        note(seen, "6 in the last row", is_cell && row as i64 == plate.rows() - 1);
+        note(seen, "6, and the file is cut off later", is_cell && file.len() < plate.file_bytes());
+    }
+    if fault == Fault::Rows {
+        let told = i64::from(u16::from_le_bytes([left[4], left[5]]));
+        let is_there = row as i64 == plate.rows();
+        note(seen, "all rows, one less told", is_there && told == plate.rows() - 1);
+        note(seen, "all rows, one more told", is_there && told == plate.rows() + 1);
+        note(seen, "all rows, another high byte told", is_there && told == plate.rows() + 256);
+        note(seen, "rows missing, and all told", !is_there && told == plate.rows());
+        note(seen, "rows missing, and those told that are there", !is_there && told == row as i64);
+    }
+}
+
+#[test]
+fn tables_to_be_sent_reach_both_sides() {
+    let mut seen = Seen::new();
+    for case in 0..CASES {
+        let mut random = Random::new(SEED, case);
+        let size = make::size(&mut random);
+        let plate = make::plate(&mut random, size);
+        let mut table = make::table(&mut random, plate, size);
+        make::damage_table(&mut random, plate, &mut table);
+        let head = make::handed_head(&mut random, plate, table.head);
+        let [length, room] = [plate.cells(), plate.file_bytes()].map(|stated| make::length(&mut random, stated));
+        table.cells.resize(length, u32::MAX);
+        see_sending(&mut seen, &table.cells, head, room);
+    }
+    check(&seen);
+}
+
+fn see_sending(seen: &mut Seen, cells: &[u32], head: Head, room: usize) {
+    let answer = plain::write_table(cells, head, &mut vec![0; room]);
+    let refused = |number: u32, place: u64| answer == Err(plain::Refusal { number, place });
+    let (too_many, no_set) = (head.columns > MOST_COLUMNS, head.set == 0);
+    note(seen, "1, and 2 too", refused(1, 0) && no_set);
+    note(seen, "1 alone", refused(1, 0) && !no_set);
+    note(seen, "2", refused(2, 0));
+    let Ok(plate) = head.plate() else { return };
+    let is_short = room < plate.file_bytes();
+    let over = |cell: &usize| cells[*cell] > plate.limit(*cell, head.columns.min(MOST_COLUMNS));
+    let faults = (0..plate.cells().min(cells.len())).filter(over).count();
+    note(seen, "good", answer.is_ok());
+    note(seen, "good, cells out of bounds past the table", answer.is_ok() && cells.len() > plate.cells());
+    note(seen, "good, a longer output", answer.is_ok() && room > plate.file_bytes());
+    note(seen, "good, the most columns", answer.is_ok() && head.columns == MOST_COLUMNS);
+    note(seen, "3 at 1, one cell too short", refused(3, 1) && cells.len() + 1 == plate.cells());
+    note(seen, "3 at 1, and 7 too", refused(3, 1) && too_many);
+    note(seen, "3 at 1, and 6 too", refused(3, 1) && faults > 0);
+    note(seen, "3 at 1, and 3 at 2 too", refused(3, 1) && is_short);
+    note(seen, "7, and 6 too", refused(7, 0) && faults > 0);
+    note(seen, "7 by one column", refused(7, 0) && head.columns == MOST_COLUMNS + 1);
+    let is_cell = answer.is_err_and(|refusal| refusal.number == 6);
+    note(seen, "6 in one cell", is_cell && faults == 1);
+    note(seen, "6 in several", is_cell && faults > 1);
+    note(seen, "6, and 3 at 2 too", is_cell && is_short);
+    note(seen, "3 at 2, one byte too short", refused(3, 2) && room + 1 == plate.file_bytes());
 }

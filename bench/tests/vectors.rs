@@ -1,5 +1,5 @@
-// Document 01's own cases by the plain implementation, with 02's b): the worked plate, P1 to P13, and the limits on both sides. Then the outside
-// vectors of b), by the quick one too where it has the call.
+// Document 01's own cases by the plain implementation, with 02's b): the worked plate, P1 to P13, and the limits on both sides; its plate as a
+// table file. Then the outside vectors of b) and c), by the quick one too where it has the call.
 
 use bench::plain::*;
 use bench::quick::{self, Reach};
@@ -212,13 +212,111 @@ fn worked_file_saved() {
     assert_eq!(job_size(&[65; 1_000_001]), refused(7, 0));
 }
 
-// ---- The outside vectors of document 02, b) ----
+/// Document 01's plate as a table file, row by row.
+fn table_file() -> Vec<u8> {
+    let rows = [[0, 0, 1], [0, 1, 2], [0, 1, 1], [0, 0, 1], [0, 1, 2], [0, 1, 1], [0, 0, 0], [0, 0, 0]];
+    let mut file = vec![0x0A, 0, 0x10, 0, 4, 0, 6, 0, 0, 0, 2, 0, 0, 0];
+    for (start, [one, two, three]) in (-2..).zip(rows) {
+        let [low, high] = if start < 0 { [(256 + start) as u8, 0xFF] } else { [start as u8, 0] };
+        file.extend([0x0E, 0, 0x11, 0, low, high, one, 0, 0, 0, two, 0, 0, 0, three, 0, 0, 0]);
+    }
+    file.extend([2, 0, 0x12, 0, 8, 0]);
+    file
+}
 
-/// The cases of tools/vectors/b/NAME.txt, each by its fields.
+/// By the plain reader and the quick one, which leave what they refuse as it was.
+fn received(file: &[u8], length: usize) -> Answer<(Head, Vec<u32>)> {
+    let [plain, quick] = [read_table, quick::read_table].map(|read| {
+        let mut table = vec![9; length];
+        let answer = read(file, &mut table);
+        assert!(answer.is_ok() || table == vec![9; length]);
+        answer.map(|head| (head, table))
+    });
+    assert_eq!(plain, quick);
+    plain
+}
+
+/// By the plain writer and the quick one.
+fn sent(table: &[u32], head: Head, room: usize) -> Answer<Vec<u8>> {
+    let [plain, quick] = [write_table, quick::write_table].map(|write| {
+        let mut out = vec![9; room];
+        let answer = write(table, head, &mut out);
+        let kept = answer.map_or(0, |size| size as usize);
+        assert!(out[kept..].iter().all(|&byte| byte == 9));
+        answer.map(|_| out[..kept].to_vec())
+    });
+    assert_eq!(plain, quick);
+    plain
+}
+
+#[test]
+fn worked_table_sent() {
+    let (table, head, file) = (table_of(4, 6, &[A, B]), head_of(4, 6, 2), table_file());
+    assert_eq!(file.len(), 164);
+    assert_eq!(sent(&table, head, 164), Ok(file.clone()));
+    assert_eq!(sent(&[&table[..], &[ANY]].concat(), head, 170), Ok(file.clone()));
+    assert_eq!(sent(&table, head, 163), refused(3, 2));
+    assert_eq!(sent(&table[..23], head, 163), refused(3, 1));
+    assert_eq!(sent(&table, Head { columns: 0, ..head }, 0), refused(6, 2));
+    assert_eq!(received(&file, 24), Ok((head, table.clone())));
+    assert_eq!(received(&file, 26), Ok((head, [&table[..], &[9, 9]].concat())));
+    assert_eq!(received(&file, 23), refused(3, 1));
+    let (smallest, largest) = (sent(&[0], head_of(1, 1, 0), 30), sent(&[0; 18_368], head_of(512, ANY, 0), 76_936));
+    assert_eq!((smallest.map(|file| file.len()), largest.map(|file| file.len())), (Ok(30), Ok(76_936)));
+}
+
+/// The cases: each changes the worked file at a place, and is read with enough cells lent and with one too few.
+#[test]
+fn worked_table_damaged() {
+    let file = table_file();
+    let changed = |place: usize, bytes: &[u8]| {
+        let mut file = file.clone();
+        file.splice(place..place + bytes.len(), bytes.iter().copied());
+        let answers = [23, 24].map(|length| received(&file, length).map(|(head, _)| head.columns));
+        if answers[1].is_err() {
+            assert_eq!(answers[0], answers[1]);
+        } else {
+            assert_eq!(answers[0], refused(3, 1));
+        }
+        answers[1]
+    };
+    assert_eq!((changed(28, &[2]), changed(28, &[3])), (Ok(2), refused(6, 14)));
+    assert_eq!((changed(24, &[2]), changed(24, &[3])), (Ok(2), refused(6, 14)));
+    assert_eq!((changed(20, &[0]), changed(20, &[1])), (Ok(2), refused(6, 14)));
+    assert_eq!(changed(18, &[0xFD]), refused(16, 14));
+    assert_eq!(changed(158, &[2, 0, 18, 0, 7]), refused(16, 158));
+    assert_eq!(changed(14, &[0, 0, 0, 0x80]), refused(16, 14));
+    assert_eq!(changed(10, &1_000_000_u32.to_le_bytes()), Ok(1_000_000));
+    assert_eq!(changed(10, &1_000_001_u32.to_le_bytes()), refused(7, 0));
+    assert_eq!(changed(32, &[13]), refused(16, 32));
+    for (length, place) in [(163, 158), (158, 158), (160, 158), (157, 140), (14, 14), (13, 0), (0, 0)] {
+        assert_eq!(received(&file[..length], 24), refused(16, place), "{length}");
+    }
+    assert_eq!(received(&[&file[..], &[0]].concat(), 24), refused(16, 164));
+}
+
+/// Cells that no columns give: a start at −2 with 5 for thickness 2, and 0 everywhere else.
+#[test]
+fn tables_of_no_columns_are_sent() {
+    let plate = Plate::new(4, 6).unwrap();
+    let mut table = vec![0; 24];
+    table[plate.cell(-2, 2)] = 5;
+    let file = sent(&table, head_of(4, 6, 5), 164).unwrap();
+    assert_eq!(received(&file, 24), Ok((head_of(4, 6, 5), table)));
+}
+
+// ---- The outside vectors of document 02, b) and c) ----
+
+/// The cases of tools/vectors/NAME.txt, each by its fields.
 fn outside(name: &str) -> Vec<Vec<String>> {
-    let file = format!("{}/../tools/vectors/b/{name}.txt", env!("CARGO_MANIFEST_DIR"));
-    let text = fs::read_to_string(file).unwrap_or_else(|fault| panic!("tools/vectors/b/{name}.txt: {fault}"));
+    let file = format!("{}/../tools/vectors/{name}.txt", env!("CARGO_MANIFEST_DIR"));
+    let text = fs::read_to_string(file).unwrap_or_else(|fault| panic!("tools/vectors/{name}.txt: {fault}"));
     text.lines().map(|line| line.split('|').map(String::from).collect()).collect()
+}
+
+fn bytes(field: &str) -> Vec<u8> {
+    let digit = |i: usize| u8::from_str_radix(&field[i..i + 2], 16).expect("it is a byte");
+    (0..field.len()).step_by(2).map(digit).collect()
 }
 
 fn list<T: FromStr<Err: Debug>>(field: &str) -> Vec<T> {
@@ -244,7 +342,7 @@ fn left<T: Copy>(before: &[T], done: &[T]) -> Vec<T> {
 
 #[test]
 fn outside_counts() {
-    let cases = outside("counts");
+    let cases = outside("b/counts");
     assert_eq!(cases.len(), 83);
     for (case, fields) in cases.iter().enumerate() {
         let [height, set] = [0, 1].map(|i| one(&fields[i]));
@@ -256,7 +354,7 @@ fn outside_counts() {
 
 #[test]
 fn outside_recounts() {
-    let cases = outside("recount");
+    let cases = outside("b/recount");
     assert_eq!(cases.len(), 204);
     for (case, fields) in cases.iter().enumerate() {
         let [height, set, columns, bound] = [0, 1, 3, 4].map(|i| one(&fields[i]));
@@ -268,7 +366,7 @@ fn outside_recounts() {
 
 #[test]
 fn outside_readbacks() {
-    let cases = outside("readback");
+    let cases = outside("b/readback");
     assert_eq!(cases.len(), 188);
     for (case, fields) in cases.iter().enumerate() {
         let [height, set, count, room] = [0, 1, 4, 5].map(|i| one(&fields[i]));
@@ -286,7 +384,7 @@ fn outside_readbacks() {
 
 #[test]
 fn outside_plans() {
-    let cases = outside("plan");
+    let cases = outside("b/plan");
     assert_eq!(cases.len(), 69);
     for (case, fields) in cases.iter().enumerate() {
         let [height, set, columns, bound] = [0, 1, 3, 4].map(|i| one(&fields[i]));
@@ -307,6 +405,46 @@ fn outside_plans() {
                 Some(reach) => quick::plan(reach, &cells, head, bound, sheets),
             };
             assert_eq!((answer, errors, thicknesses, list), expected, "case {case}, {reach:?}");
+        }
+    }
+}
+
+fn outside_tables_read(name: &str, number: usize) {
+    let cases = outside(name);
+    assert_eq!(cases.len(), number);
+    for (case, fields) in cases.iter().enumerate() {
+        let before = vec![77; one(&fields[1])];
+        let [height, set, columns] = [4, 5, 6].map(|i| one(&fields[i]));
+        let expected =
+            (answered(&fields[2], &fields[3]).map(|_| Head { height, set, columns }), left(&before, &list(&fields[7])));
+        for read in [read_table, quick::read_table] {
+            let mut table = before.clone();
+            let answer = read(&bytes(&fields[0]), &mut table);
+            assert_eq!((answer, table), expected, "{name}, case {case}");
+        }
+    }
+}
+
+#[test]
+fn outside_tables_received() {
+    outside_tables_read("c/read", 324);
+    outside_tables_read("c/cut", 63);
+    outside_tables_read("c/bytes", 92);
+}
+
+#[test]
+fn outside_tables_sent() {
+    let cases = outside("c/write");
+    assert_eq!(cases.len(), 115);
+    for (case, fields) in cases.iter().enumerate() {
+        let [height, set, columns] = [0, 1, 3].map(|i| one(&fields[i]));
+        let (cells, head) = (list::<u32>(&fields[2]), Head { height, set, columns });
+        let before = vec![77; one(&fields[4])];
+        let expected = (answered(&fields[5], &fields[6]), left(&before, &bytes(&fields[7])));
+        for write in [write_table, quick::write_table] {
+            let mut out = before.clone();
+            let answer = write(&cells, head, &mut out);
+            assert_eq!((answer, out), expected, "case {case}");
         }
     }
 }

@@ -356,32 +356,149 @@ fn writing(rounds: usize, name: &str, columns: usize, boundaries: usize, times: 
     println!("| {name}, {size} bytes | {} | {} | {} |", each.join(" | "), taken.ratio(1), taken.ratio(2));
 }
 
+// ---- Sending a table ----
+
+/// A table, its file, and room for a copy of the file.
+struct Desk {
+    table: Table,
+    file: Vec<u8>,
+    copied: Vec<u8>,
+}
+
+type Clerk = fn(&mut Desk);
+
+/// For scale: the file's bytes, from one place to another.
+fn copy(desk: &mut Desk) {
+    desk.copied.copy_from_slice(&desk.file);
+}
+
+const SENDERS: [Clerk; 3] = [
+    |desk| {
+        let reply = library::write_table(&desk.table.cells, desk.table.head, &mut desk.file);
+        assert_eq!(reply.number, 0);
+    },
+    |desk| {
+        quick::write_table(&desk.table.cells, desk.table.head, &mut desk.file).expect("the table is good");
+    },
+    copy,
+];
+
+const RECEIVERS: [Clerk; 3] = [
+    |desk| desk.table.head = tabled(library::read_table(&desk.file, &mut desk.table.cells)),
+    |desk| desk.table.head = good(quick::read_table(&desk.file, &mut desk.table.cells)),
+    copy,
+];
+
+/// What each leaves of a table and of its file, and that the copy is one.
+fn compare_clerks(desk: &mut Desk) {
+    let (table, file) = (desk.table.clone(), file_of(&desk.table));
+    for sender in &SENDERS[..2] {
+        desk.file.fill(1);
+        sender(desk);
+        assert!(desk.file == file);
+    }
+    for receiver in &RECEIVERS[..2] {
+        desk.table.cells.fill(1);
+        desk.table.head.columns = 1;
+        receiver(desk);
+        assert!(desk.table.cells == table.cells && desk.table.head == table.head);
+    }
+    copy(desk);
+    assert!(desk.copied == file);
+}
+
+fn file_of(table: &Table) -> Vec<u8> {
+    make::table_file(table.head.plate().expect("allowed"), table.head, &table.cells)
+}
+
+fn sending(rounds: usize, name: &str, height: u32, set: u32, times: u32) {
+    let plate = Plate::new(height, set).expect("allowed");
+    let size = plate.file_bytes();
+    let mut desk = Desk { table: some_table(plate, 200), file: vec![0; size], copied: vec![0; size] };
+    compare_clerks(&mut desk);
+    let contender = |clerk: Clerk| -> Contender<Desk> {
+        Box::new(move |desk| {
+            clocked(|| {
+                for _ in 0..times {
+                    clerk(black_box(desk));
+                }
+            })
+        })
+    };
+    for (work, clerks) in [("writing", SENDERS), ("reading", RECEIVERS)] {
+        let taken = time(rounds, &mut desk, &clerks.map(contender));
+        let each: Vec<String> = (0..3).map(|i| format!("{:.0}", taken.of(i) / f64::from(times))).collect();
+        println!("| {work}, {name}, {size} bytes | {} | {} | {} |", each.join(" | "), taken.ratio(1), taken.ratio(2));
+    }
+}
+
 // ---- The tables ----
 
-fn main() {
-    let asked = std::env::args().nth(1).and_then(|word| word.parse().ok());
-    let rounds = asked.unwrap_or(ROUNDS).max(LEAST_ROUNDS);
-    println!("Medians of {rounds} rounds (adding: {LEAST_ROUNDS}); ratios are library / Rust, in brackets a round's lowest and highest.");
-    println!("Sheets and outputs hold the round before and are not cleared; tables are cleared or set back outside the clock.\n");
+fn plans(rounds: usize) {
     println!("| planning, ns a step | library | Rust, every count | up to the greatest | possible only | / every | / up to the greatest | / possible only |");
     println!("|---|---|---|---|---|---|---|---|");
     planning(rounds, "N = 512, all 32", 512, ALL, 1);
     planning(rounds, "N = 512, {4..16}", 512, FOUR_TO_SIXTEEN, 10);
     planning(rounds, "N = 64, {2, 3}", 64, TWO_AND_THREE, 2_000);
     println!("\nA step is one height × count × thickness, of (N+2·tmax−1) · M · |T|; the source paper's Table I comes to about 4 ns a step.");
-    println!("\n| boundaries of each of 1,000 columns | library, ms | Algorithm 1, ms | carrying, ms | / Algorithm 1 | / carrying |");
+}
+
+fn additions(_: usize) {
+    println!("| boundaries of each of 1,000 columns | library, ms | Algorithm 1, ms | carrying, ms | / Algorithm 1 | / carrying |");
     println!("|---|---|---|---|---|---|");
     for boundaries in [2, 4, 8, 64] {
         adding(LEAST_ROUNDS, boundaries);
     }
-    println!("\n| N = 512, all 32 unless said | library | Rust | ratio |");
+}
+
+fn tables(rounds: usize) {
+    println!("| N = 512, all 32 unless said | library | Rust | ratio |");
     println!("|---|---|---|---|");
     joining_and_taking_off(rounds);
     reading_back(rounds, "reading back every count, µs", 512, ALL, 5);
     reading_back(rounds, "reading back every count, {4..16}, µs", 512, FOUR_TO_SIXTEEN, 20);
-    println!("\n| writing a job file, bytes a ns | library | Rust, pair by pair | all pairs | / pair by pair | / all pairs |");
+}
+
+fn jobs(rounds: usize) {
+    println!(
+        "| writing a job file, bytes a ns | library | Rust, pair by pair | all pairs | / pair by pair | / all pairs |"
+    );
     println!("|---|---|---|---|---|---|");
     writing(rounds, "20,000 columns of 64", 20_000, 64, 2);
     writing(rounds, "100,000 columns of 2", 100_000, 2, 5);
     writing(rounds, "100,000 empty columns", 100_000, 0, 10);
+}
+
+fn files(rounds: usize) {
+    println!("| sending a table, ns a call | library | Rust | a copy | / Rust | / a copy |");
+    println!("|---|---|---|---|---|---|");
+    sending(rounds, "N = 512, all 32", 512, ALL, 50);
+    sending(rounds, "N = 64, {2, 3}", 64, TWO_AND_THREE, 2_000);
+}
+
+/// One table of speeds, and the word that asks for it alone.
+struct Speeds {
+    word: &'static str,
+    print: fn(usize),
+}
+
+const TABLES: [Speeds; 5] = [
+    Speeds { word: "planning", print: plans },
+    Speeds { word: "adding", print: additions },
+    Speeds { word: "joining", print: tables },
+    Speeds { word: "writing", print: jobs },
+    Speeds { word: "sending", print: files },
+];
+
+fn main() {
+    let mut words = std::env::args().skip(1);
+    let asked = words.next().and_then(|word| word.parse().ok());
+    let only = words.next();
+    let rounds = asked.unwrap_or(ROUNDS).max(LEAST_ROUNDS);
+    println!("Medians of {rounds} rounds (adding: {LEAST_ROUNDS}); ratios are library / Rust, in brackets a round's lowest and highest.");
+    println!("Sheets and outputs hold the round before and are not cleared; tables are cleared or set back outside the clock.");
+    for table in TABLES.iter().filter(|table| only.as_ref().is_none_or(|only| only == table.word)) {
+        println!();
+        (table.print)(rounds);
+    }
 }

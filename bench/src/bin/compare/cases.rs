@@ -6,6 +6,7 @@ use bench::library;
 use bench::make;
 use bench::plain::{self, Columns, Filled, Head, Plate, Sheets};
 use bench::random::Random;
+use std::fmt::Debug;
 
 pub type Outcome = Result<u32, String>;
 
@@ -29,6 +30,9 @@ pub const CALLS: &[Call] = &[
     Call { name: "read job", refusals: &[16, 1, 2, 17, 4, 5, 3], case: read_job },
     Call { name: "job size", refusals: &[7, 4], case: job_size },
     Call { name: "write job", refusals: &[1, 2, 7, 4, 3, 5], case: write_job },
+    Call { name: "read table", refusals: &[16, 1, 2, 7, 6, 3], case: read_table },
+    Call { name: "write table", refusals: &[1, 2, 3, 7, 6], case: write_table },
+    Call { name: "send table", refusals: &[16], case: send_table },
 ];
 
 /// The difference, with the case that shows it.
@@ -358,11 +362,13 @@ pub fn loaded(file: &Lent<u8>, most: usize, table: &Lent<u32>) -> Outcome {
     let difference = same(answer, library)
         .and_then(|()| actual.agrees("table", &expected))
         .and_then(|()| handed.agrees("file", file));
-    told(difference, answer.number, || {
-        let bytes: String = file.part().iter().take(2_000).map(|byte| format!("{byte:02x}")).collect();
-        let (length, cells) = (file.part().len(), table.part().len());
-        format!("most {most}, {cells} cells lent, file of {length} bytes {bytes}")
-    })
+    told(difference, answer.number, || format!("most {most}, {} cells lent, {}", table.part().len(), file_text(file)))
+}
+
+/// For a printed case: its length and its first bytes.
+fn file_text(file: &Lent<u8>) -> String {
+    let bytes: String = file.part().iter().take(2_000).map(|byte| format!("{byte:02x}")).collect();
+    format!("file of {} bytes {bytes}", file.part().len())
 }
 
 fn job_size(random: &mut Random) -> Outcome {
@@ -451,4 +457,98 @@ fn read_again(random: &mut Random, height: u32, set: u32, bound: u32, saved: &Sa
     let wanted = library::as_loaded(Ok(plain::Loaded { head: expected.head, bound }));
     let cells = if table.part() == expected.cells { Ok(()) } else { Err("another table was read again".to_string()) };
     told(same(wanted, loaded).and(cells), 0, || format!("height {height}, set {set:#x}, columns {columns:?}"))
+}
+
+fn read_table(random: &mut Random) -> Outcome {
+    let size = make::size(random);
+    let plate = make::plate(random, size);
+    let file = make::handed_table_file(random, plate, size);
+    let file = Lent::given(random, &file);
+    let length = make::length(random, plate.cells());
+    let table = Lent::random(random, length);
+    received(&file, &table).map(|(answer, _)| answer.number)
+}
+
+/// Reads a table file by both and compares; what the library answered, and the table as it left it.
+pub fn received(file: &Lent<u8>, table: &Lent<u32>) -> Result<(library::Tabled, Lent<u32>), String> {
+    let (handed, mut expected, mut actual) = (file.clone(), table.clone(), table.clone());
+    let answer = library::as_tabled(plain::read_table(file.part(), expected.part_mut()));
+    let library = library::read_table(handed.part(), actual.part_mut());
+    let difference = same(answer, library)
+        .and_then(|()| actual.agrees("table", &expected))
+        .and_then(|()| handed.agrees("file", file));
+    told(difference, 0, || format!("{} cells lent, {}", table.part().len(), file_text(file)))?;
+    Ok((library, actual))
+}
+
+fn write_table(random: &mut Random) -> Outcome {
+    let size = make::size(random);
+    let plate = make::plate(random, size);
+    let mut table = make::table(random, plate, size);
+    make::damage_table(random, plate, &mut table);
+    let head = make::handed_head(random, plate, table.head);
+    let [length, room] = [plate.cells(), plate.file_bytes()].map(|stated| make::length(random, stated));
+    let cells = Lent::new(random, &table.cells, length);
+    let out = Lent::random(random, room);
+    sent(&cells, head, &out).map(|(reply, _)| reply.number)
+}
+
+/// Writes a table by both and compares; what the library answered, and the output as it left it.
+pub fn sent(cells: &Lent<u32>, head: Head, out: &Lent<u8>) -> Result<(library::Reply, Lent<u8>), String> {
+    let (handed, mut expected, mut actual) = (cells.clone(), out.clone(), out.clone());
+    let answer = library::as_reply(plain::write_table(cells.part(), head, expected.part_mut()));
+    let library = library::write_table(handed.part(), head, actual.part_mut());
+    let difference = same(answer, library)
+        .and_then(|()| actual.agrees("output", &expected))
+        .and_then(|()| handed.agrees("table", cells));
+    told(difference, 0, || format!("{}, {} bytes lent, table {}", head_text(head), out.part().len(), cells.text()))?;
+    Ok((library, actual))
+}
+
+/// What the library writes it reads as it was; and a file that it reads, damaged or not, it writes byte for byte. The number is that of reading
+/// the second.
+fn send_table(random: &mut Random) -> Outcome {
+    let size = make::size(random);
+    let plate = make::plate(random, size);
+    let table = make::table(random, plate, size);
+    let cells = Lent::given(random, &table.cells);
+    read_as_it_was(random, plate, &cells, table.head)?;
+    let file = make::handed_table_file(random, plate, size);
+    let file = Lent::given(random, &file);
+    written_as_it_was(random, &file)
+}
+
+/// A table in bounds, sent: the same cells in another buffer, which may be longer.
+pub fn read_as_it_was(random: &mut Random, plate: Plate, cells: &Lent<u32>, head: Head) -> Result<Lent<u32>, String> {
+    let out = Lent::random(random, plate.file_bytes());
+    let (_, file) = sent(cells, head, &out)?;
+    let beyond = random.index(9);
+    let before = Lent::random(random, plate.cells() + beyond);
+    let (answer, read) = received(&file, &before)?;
+    let expected = [&cells.part()[..plate.cells()], &before.part()[plate.cells()..]].concat();
+    let difference = same(library::as_tabled(Ok(head)), answer)
+        .and_then(|()| same_elements("table read again", &expected, read.part()));
+    told(difference, 0, || format!("{}, table {}", head_text(head), cells.text()))?;
+    Ok(read)
+}
+
+/// As many cells as any table has.
+const MOST_CELLS: usize = 18_368;
+
+fn written_as_it_was(random: &mut Random, file: &Lent<u8>) -> Outcome {
+    let table = Lent::random(random, MOST_CELLS);
+    let (answer, read) = received(file, &table)?;
+    if answer.number == 0 {
+        let out = Lent::random(random, file.part().len());
+        let (_, again) = sent(&read, answer.head, &out)?;
+        told(same_elements("file written again", file.part(), again.part()), 0, || file_text(file))?;
+    }
+    Ok(answer.number)
+}
+
+fn same_elements<T: PartialEq + Debug>(name: &str, before: &[T], after: &[T]) -> Result<(), String> {
+    match (0..before.len().max(after.len())).find(|&i| before.get(i) != after.get(i)) {
+        None => Ok(()),
+        Some(i) => Err(format!("{name}, at {i}: before {:?}, after {:?}", before.get(i), after.get(i))),
+    }
 }

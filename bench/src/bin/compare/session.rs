@@ -1,7 +1,8 @@
-// A caller's whole session over buffers that go on from call to call: two groups of columns tabulated, joined, planned within a bound, every
-// count read back and recounted, and one group taken off again.
+// A caller's whole session over buffers that go on from call to call: two groups of columns tabulated, one of them sent by a file, joined, the
+// plate sent too, planned within a bound, every count read back and recounted, and the group that was sent taken off again.
 
-use crate::cases::{added, head_text, planned, read, recounted, told, Joining, LentSheets, Outcome};
+use crate::cases::{added, head_text, planned, read, read_as_it_was, recounted, told};
+use crate::cases::{Joining, LentSheets, Outcome};
 use crate::lent::{same, Lent};
 use bench::library;
 use bench::make::{self, Size};
@@ -20,8 +21,10 @@ pub fn session(random: &mut Random, full: bool) -> Outcome {
     let plate = make::plate(random, size);
     let most = if full { 300 } else { 40 };
     let mut first = group(random, plate, most)?;
-    let second = group(random, plate, most)?;
+    let mut second = group(random, plate, most)?;
+    send(random, plate, &mut second)?;
     together(&mut first, &second, (plain::join_tables, library::join_tables))?;
+    send(random, plate, &mut first)?;
     plan_and_read(random, plate, &first)?;
     together(&mut first, &second, (plain::take_off, library::take_off))?;
     plan_and_read(random, plate, &first)
@@ -41,6 +44,15 @@ fn group(random: &mut Random, plate: Plate, most: u64) -> Result<Group, String> 
         added(&mut group.actual, &mut group.expected, &mut group.head, &column)?;
     }
     Ok(group)
+}
+
+/// The group's table as it came by a file, once or twice, in place of the one that it was.
+fn send(random: &mut Random, plate: Plate, group: &mut Group) -> Result<(), String> {
+    for _ in 0..random.pick(&[1, 2]) {
+        group.actual = read_as_it_was(random, plate, &group.actual, group.head)?;
+    }
+    group.expected = group.actual.clone();
+    Ok(())
 }
 
 fn together(first: &mut Group, second: &Group, calls: Joining) -> Outcome {
