@@ -10,14 +10,12 @@ use Rattle.paper.specs.Table.{cells}
 use Rattle.paper.specs.Sequence.{M}
 use Rattle.paper.specs.Sheets.{entries}
 use Rattle.plate.specs.Call.{answerOf}
-use Rattle.plate.specs.Head.{Held, cellsOf, limitOf, headChecks}
+use Rattle.plate.specs.Head.{Held, limitOf, headChecks}
 use Rattle.plate.specs.Refusal.{done}
 use Rattle.plate.proofs.Calls.{finished}
-use Rattle.plate.proofs.Heads.{not-over}
 use Rattle.column.proofs.Fine.{settings-passed}
-use Rattle.table.specs.Cells.{firstOut}
 use Rattle.table.specs.Table.{short, outCell, boundChecks}
-use Rattle.table.proofs.Passed.{all-within}
+use Rattle.table.proofs.Passed.{bounds-passed}
 use Rattle.plan.specs.Plan.{Sheets, planRest, planning}
 use Rattle.promises.specs.Plans.{Accepted}
 
@@ -33,11 +31,7 @@ plan-accepted held bound lent m bits e =
     let q = first-none rest .0 (first-later (headChecks (held .head)) rest (f .0)) in
     record {
       settings = settings-passed N T bits (first-earlier (headChecks (held .head)) rest (f .0));
-      bounds = record {
-        size = ltb-false (length (held .buffer)) (cells N T) (q .0);
-        columns = not-over (held .head) (q .1 .1 .1 .1 .0);
-        bounded = all-within held (ltb-false (firstOut held) (cellsOf (held .head)) (q .1 .1 .1 .1 .1 .0));
-      };
+      bounds = bounds-passed held (ltb-false (length (held .buffer)) (cells N T) (q .0)) (first-none (boundChecks held) .1 (q .1 .1 .1 .1));
       room = record {
         errors = ltb-false (length (lent .errors)) (entries N T) (q .1 .0);
         thicknesses = ltb-false (length (lent .thicknesses)) (entries N T) (q .1 .1 .0);

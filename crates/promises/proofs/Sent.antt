@@ -15,16 +15,14 @@ use Rattle.lists.proofs.Checks.{first-none, first-later, first-earlier, first-p
 use Rattle.paper.specs.Limits.{sets, largestBound}
 use Rattle.paper.specs.Table.{cells}
 use Rattle.plate.specs.Call.{answerOf, leftBy}
-use Rattle.plate.specs.Head.{Held, heldIn, cellsOf, limitOf, headChecks}
+use Rattle.plate.specs.Head.{Held, heldIn, cellsOf, headChecks}
 use Rattle.plate.specs.Refusal.{done, Numbered, toldBy}
 use Rattle.plate.specs.declared.head.Head.{Head}
 use Rattle.plate.proofs.Calls.{finished, passes}
 use Rattle.plate.proofs.Decided.{told-done}
-use Rattle.plate.proofs.Heads.{not-over}
 use Rattle.column.proofs.Fine.{settings-fine, settings-passed}
-use Rattle.table.specs.Cells.{firstOut}
-use Rattle.table.specs.Table.{short, outCell, boundChecks, tableRest, tableChecks, Bounded}
-use Rattle.table.proofs.Passed.{all-within, table-fine}
+use Rattle.table.specs.Table.{short, boundChecks, tableRest, tableChecks, Bounded}
+use Rattle.table.proofs.Passed.{table-fine, bounds-passed}
 use Rattle.record.specs.Bytes.{Bytes}
 use Rattle.sent.specs.Written.{rowsOf, fileOf, fileSize, Sendable}
 use Rattle.sent.specs.File.{headIn, fileChecks, cellsIn, tableFile}
@@ -55,21 +53,17 @@ module _ (held : Held) (out : List ℕ) where
   takes p b room = passes (sending held out) (send-fine p b room) .0
 
   -- and what is not refused is in order
-  bounds-passed : first (tableRest held) ≡ none → Bounded held
-  unfolding tableRest short boundChecks outCell limitOf
-  bounds-passed e =
-      let q = first-none (tableRest held) .0 e in
-      record {
-        size = ltb-false (length (held .buffer)) (cellsOf (held .head)) (q .0);
-        columns = not-over (held .head) (q .1 .0);
-        bounded = all-within held (ltb-false (firstOut held) (cellsOf (held .head)) (q .1 .1 .0));
-      }
+  rest-passed : first (tableRest held) ≡ none → Bounded held
+  unfolding tableRest short
+  rest-passed e =
+      let q = first-none (short held 1 ∷ []) .0 (first-earlier (short held 1 ∷ []) (boundChecks held) e) in
+      bounds-passed held (ltb-false (length (held .buffer)) (cellsOf (held .head)) (q .0)) (first-later (short held 1 ∷ []) (boundChecks held) e)
 
   table-passed : held .head .members < sets → first (tableChecks held) ≡ none → SettingsOf held × Bounded held
   unfolding tableChecks
   table-passed bits e = (
     settings-passed (held .head .height) (held .head .members) bits (first-earlier (headChecks (held .head)) (tableRest held) e),
-    bounds-passed (first-later (headChecks (held .head)) (tableRest held) e),
+    rest-passed (first-later (headChecks (held .head)) (tableRest held) e),
   )
 
   sends : held .head .members < sets → (size : ℕ) → answerOf (sending held out) ≡ done size → SentOver held out size (leftBy (sending held out))

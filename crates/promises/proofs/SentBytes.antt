@@ -1,17 +1,15 @@
 -- The bytes of a table file, record by record. The file that is written is accepted, so that by the reader's checks each row stands at its place with
 -- its start and its cells (crate `sent`), and its head is read back; the end stands behind as many bytes as head and rows have. Assumes nothing.
-use mathlib.Core.Path.{_≡_, refl, sym, ap, subst, _∙_}
+use mathlib.Core.Path.{_≡_, refl, sym, ap, _∙_}
 use mathlib.Core.List.{List, [], _++_, append-assoc, append-nil}
-use mathlib.Core.Option.{none}
 use Prim.Native.Nat.{ℕ, suc, _+_, _-_, _*_, _≤_, _<_}
 use native.Mathlib.Omega.{arith}
-use lib.ListN.{length, take, drop, length-append}
+use lib.ListN.{length, drop, length-append}
 use lib.Seq.{drop-at}
-use Rattle.lists.specs.Checks.{first}
 use Rattle.paper.specs.Layer.{tmax}
 use Rattle.paper.specs.Table.{rows, cells}
 use Rattle.paper.proofs.Thicknesses.{tmax-le}
-use Rattle.plate.specs.Head.{Held, heldIn, cellsOf}
+use Rattle.plate.specs.Head.{Held, cellsOf}
 use Rattle.plate.specs.declared.head.Head.{Head}
 use Rattle.table.specs.Table.{Bounded}
 use Rattle.record.specs.Frame.{bodyAt}
@@ -21,13 +19,11 @@ use Rattle.record.proofs.Spelled.{length-quadBytesOf, read16, readFrame}
 use Rattle.sent.specs.Kinds.{headKind, rowKind, endKind, rowLength}
 use Rattle.sent.specs.Start.{rowStart, twos16}
 use Rattle.sent.specs.Written.{rowsOf, headRecord, rowRecord, endRecord, rowRecords, tableBytes, fileOf, fileSize}
-use Rattle.sent.specs.File.{headIn, rowPlace, rowAt, rowsChecks, fileChecks, cellsIn}
+use Rattle.sent.specs.File.{headIn, rowPlace, rowAt}
 use Rattle.sent.proofs.Starts.{row-cell as cell-of-row}
-use Rattle.sent.proofs.Laid.{bytes-table, length-head, length-rows, length-table}
+use Rattle.sent.proofs.Laid.{length-head, length-rows, length-table}
 use Rattle.sent.proofs.Rows.{few-rows}
-use Rattle.sent.proofs.Reading.{read-back}
-use Rattle.sent.proofs.Writing.{each-row, rows-passed, accepted}
-use Rattle.sent.proofs.Round.{cell-bytes}
+use Rattle.sent.proofs.Round.{head-read, row-written, cell-bytes}
 use Rattle.promises.specs.Plans.{SettingsOf}
 use Rattle.promises.specs.Sent.{RecordHead, Opening, RowCell, Ending}
 
@@ -49,13 +45,6 @@ module _ (held : Held) (p : SettingsOf held) (b : Bounded held) where
   abbrev T : ℕ
   T = held .head .members
 
-  -- the file that is written is accepted, with this head
-  passed : (first (fileChecks file) ≡ none) × (heldIn (headIn file) (cellsIn file) ≡ heldIn head (take (cellsOf head) (held .buffer)))
-  passed = accepted file (bytes-table head (held .buffer)) (heldIn head (take (cellsOf head) (held .buffer))) (read-back head (held .buffer) p b)
-
-  head-read : headIn file ≡ head
-  head-read = ap (λ (h : Held). h .head) (passed .1)
-
   -- a record that stands there has its head
   stands : (at kind : ℕ) (body rest : List ℕ) → kind < 65_536 → length body < 65_536 → drop at file ≡ framed kind body ++ rest → RecordHead file at (length body) kind
   stands at kind body rest k l e = let f = readFrame file at kind body rest k l e in record { length-is = f .long; kind-is = f .kind-is }
@@ -67,20 +56,18 @@ module _ (held : Held) (p : SettingsOf held) (b : Bounded held) where
       let rest = rowRecords T (rowsOf head) 0 (held .buffer) ++ endRecord (rowsOf head) in
       record {
         record-head = stands 0 headKind body rest (omega arith) (omega arith) refl;
-        height = ap (λ (h : Head). h .height) head-read;
-        members = ap (λ (h : Head). h .members) head-read;
-        columns = ap (λ (h : Head). h .columns) head-read;
+        height = ap (λ (h : Head). h .height) (head-read head (held .buffer) p b);
+        members = ap (λ (h : Head). h .members) (head-read head (held .buffer) p b);
+        columns = ap (λ (h : Head). h .columns) (head-read head (held .buffer) p b);
       }
 
   pub row-is : (r : ℕ) → r < rowsOf head → RecordHead file (rowPlace T r) (2 + 4 * tmax T) 17
   unfolding rowRecord bytes16
   row-is r l =
-      let rows = subst (λ (h : Head). first (rowsChecks file h (rowsOf h) 0) ≡ none) head-read (rows-passed file (bytes-table head (held .buffer)) (passed .0)) in
       let row = rowAt file T r in
       let body = bytes16 (twos16 (rowStart T r)) ++ quadBytesOf row in
       let long : length body ≡ 2 + 4 * tmax T = omega (arith, length-quadBytesOf row, length-quads file (bodyAt (rowPlace T r) + 2) (tmax T)) in
-      let z : 0 + r ≡ r = omega arith in
-      let stand = rw z at (each-row file (bytes-table head (held .buffer)) head (rowsOf head) 0 r l rows .bytes) in
+      let stand = row-written head (held .buffer) p b r l .bytes in
       let small : length body < 65_536 = omega (arith, tmax-le T) in
       rw long at (stands (rowPlace T r) rowKind body (drop (rowPlace T (suc r)) file) (omega arith) small stand)
 

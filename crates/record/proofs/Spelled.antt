@@ -64,6 +64,11 @@ pub bytes-framed : (kind : ℕ) (body : List ℕ) → Bytes body → Bytes (fram
 unfolding framed
 bytes-framed kind body b = bytes-append (bytes16 (length body)) (bytes16 kind ++ body) (bytes-16 (length body)) (bytes-append (bytes16 kind) body (bytes-16 kind) b)
 
+-- of a record of one number of two bytes and two of four, as files begin with
+pub bytes-opening : (kind a b c : ℕ) → Bytes (framed kind (bytes16 a ++ (bytes32 b ++ bytes32 c)))
+bytes-opening kind a b c =
+    bytes-framed kind (bytes16 a ++ (bytes32 b ++ bytes32 c)) (bytes-append (bytes16 a) (bytes32 b ++ bytes32 c) (bytes-16 a) (bytes-append (bytes32 b) (bytes32 c) (bytes-32 b) (bytes-32 c)))
+
 -- ---- written, then read
 
 -- n numbers, the first one first

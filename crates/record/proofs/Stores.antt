@@ -7,7 +7,7 @@ use native.Mathlib.Omega.{arith}
 use borrow.Author.Tests.{le-leb, lt-leb}
 use lib.ListN.{length, set}
 use lib.Seq.{sets}
-use Rattle.record.specs.Written.{bytes16, bytes32, spelled, bytesOf, quadBytesOf, laidAt}
+use Rattle.record.specs.Written.{bytes16, bytes32, spelled, bytesOf, quadBytesOf, framed, laidAt}
 use Rattle.record.proofs.Spelled.{low-byte}
 
 pub stored-behind : (l : List ℕ) (at : ℕ) (xs ys : List ℕ) → sets (sets l at xs) (at + length xs) ys ≡ sets l at (xs ++ ys)
@@ -57,3 +57,10 @@ quads-append = spelled-append bytes32
 pub halves : (n : ℕ) → bytesOf (n % 65536 ∷ n / 65536 ∷ []) ≡ bytes32 n
 unfolding bytesOf bytes32 bytes16
 halves n = ap (λ (l : List ℕ). l ++ bytes16 (n / 65536)) (remainder n)
+
+-- a record of one number of two bytes and two of four, as files begin with, in numbers of two
+pub opening-numbers : (kind a b c : ℕ) → bytesOf (10 ∷ kind ∷ a ∷ b % 65536 ∷ b / 65536 ∷ c % 65536 ∷ c / 65536 ∷ []) ≡ framed kind (bytes16 a ++ (bytes32 b ++ bytes32 c))
+unfolding bytesOf framed bytes32 bytes16
+opening-numbers kind a b c =
+    let four = numbers-append (b % 65536 ∷ b / 65536 ∷ []) (c % 65536 ∷ c / 65536 ∷ []) ∙ (λ i. halves b i ++ halves c i) in
+    ap (λ (l : List ℕ). bytes16 10 ++ (bytes16 kind ++ (bytes16 a ++ l))) four

@@ -8,7 +8,7 @@ use lib.ListN.{length, length-append}
 use Rattle.paper.specs.Layer.{Column}
 use Rattle.record.specs.Bytes.{Bytes}
 use Rattle.record.specs.Written.{bytes16, bytes32, bytesOf}
-use Rattle.record.proofs.Spelled.{length-bytesOf, length-framed, bytes-none, bytes-append, bytes-16, bytes-32, bytes-of, bytes-framed}
+use Rattle.record.proofs.Spelled.{length-bytesOf, length-framed, bytes-none, bytes-append, bytes-32, bytes-of, bytes-framed, bytes-opening}
 use Rattle.job.specs.Kinds.{settingsKind, columnKind, endKind}
 use Rattle.job.specs.File.{Job}
 use Rattle.job.specs.Written.{settingsRecord, columnRecord, endRecord, columnRecords, written}
@@ -52,10 +52,7 @@ length-written job =
 
 bytes-settings : (a : Asked) → Bytes (settingsRecord a)
 unfolding settingsRecord
-bytes-settings a =
-    bytes-framed settingsKind (bytes16 (a .height) ++ (bytes32 (a .members) ++ bytes32 (a .bound)))
-    (bytes-append (bytes16 (a .height)) (bytes32 (a .members) ++ bytes32 (a .bound)) (bytes-16 (a .height))
-    (bytes-append (bytes32 (a .members)) (bytes32 (a .bound)) (bytes-32 (a .members)) (bytes-32 (a .bound))))
+bytes-settings a = bytes-opening settingsKind (a .height) (a .members) (a .bound)
 
 bytes-columns : (columns : List Column) → Bytes (columnRecords columns)
 unfolding columnRecords columnRecord

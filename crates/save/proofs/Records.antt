@@ -9,7 +9,7 @@ use lib.Seq.{sets, length-sets}
 use Rattle.paper.specs.Layer.{columnOf}
 use Rattle.record.specs.Written.{bytes16, bytes32, bytesOf, framed, laidAt}
 use Rattle.record.proofs.Spelled.{length-bytesOf}
-use Rattle.record.proofs.Stores.{stored-then, laid, numbers-append, halves}
+use Rattle.record.proofs.Stores.{stored-then, laid, halves, opening-numbers}
 use Rattle.job.specs.Kinds.{settingsKind, columnKind, endKind}
 use Rattle.job.specs.Written.{settingsRecord, columnRecord, endRecord}
 use Rattle.job.specs.declared.Asked.{Asked}
@@ -21,10 +21,8 @@ abbrev settingsNumbers : Asked → List ℕ
 settingsNumbers a = 10 ∷ settingsKind ∷ a .height ∷ a .members % 65536 ∷ a .members / 65536 ∷ a .bound % 65536 ∷ a .bound / 65536 ∷ []
 
 settings-numbers : (a : Asked) → bytesOf (settingsNumbers a) ≡ settingsRecord a
-unfolding bytesOf settingsRecord framed bytes32 bytes16
-settings-numbers a =
-    let four = numbers-append (a .members % 65536 ∷ a .members / 65536 ∷ []) (a .bound % 65536 ∷ a .bound / 65536 ∷ []) ∙ (λ i. halves (a .members) i ++ halves (a .bound) i) in
-    ap (λ (l : List ℕ). bytes16 10 ++ (bytes16 settingsKind ++ (bytes16 (a .height) ++ l))) four
+unfolding settingsRecord
+settings-numbers a = opening-numbers settingsKind (a .height) (a .members) (a .bound)
 
 pub settings-laid : (a : Asked) (out : List ℕ) → 14 ≤ length out → laidAt out 0 (bytesOf (settingsNumbers a)) ≡ sets out 0 (settingsRecord a)
 settings-laid a out room = ap (laidAt out 0) (settings-numbers a) ∙ laid out 0 (settingsRecord a) (omega (arith, length-settings a))

@@ -9,7 +9,7 @@ use lib.Seq.{sets, length-take-le, take-suc}
 use Rattle.plate.specs.declared.head.Head.{Head}
 use Rattle.record.specs.Written.{bytes16, bytes32, bytesOf, quadBytesOf, framed, laidAt}
 use Rattle.record.proofs.Spelled.{length-bytesOf, length-quadBytesOf}
-use Rattle.record.proofs.Stores.{stored-behind, stored-then, laid, numbers-append, quads-append, halves}
+use Rattle.record.proofs.Stores.{stored-behind, stored-then, laid, quads-append, opening-numbers}
 use Rattle.sent.specs.Kinds.{headKind, rowKind, endKind}
 use Rattle.sent.specs.Written.{headRecord, endRecord}
 use Rattle.sent.proofs.Laid.{length-head, length-end}
@@ -44,10 +44,8 @@ headNumbers head =
     10 ∷ headKind ∷ head .height ∷ head .members % 65536 ∷ head .members / 65536 ∷ head .columns % 65536 ∷ head .columns / 65536 ∷ []
 
 head-numbers : (head : Head) → bytesOf (headNumbers head) ≡ headRecord head
-unfolding bytesOf headRecord framed bytes32 bytes16
-head-numbers head =
-    let four = numbers-append (head .members % 65536 ∷ head .members / 65536 ∷ []) (head .columns % 65536 ∷ head .columns / 65536 ∷ []) ∙ (λ i. halves (head .members) i ++ halves (head .columns) i) in
-    ap (λ (l : List ℕ). bytes16 10 ++ (bytes16 headKind ++ (bytes16 (head .height) ++ l))) four
+unfolding headRecord
+head-numbers head = opening-numbers headKind (head .height) (head .members) (head .columns)
 
 pub head-laid : (head : Head) (out : List ℕ) → 14 ≤ length out → laidAt out 0 (bytesOf (headNumbers head)) ≡ sets out 0 (headRecord head)
 head-laid head out room = ap (laidAt out 0) (head-numbers head) ∙ laid out 0 (headRecord head) (omega (arith, length-head head))

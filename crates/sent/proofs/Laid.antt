@@ -15,7 +15,7 @@ use Rattle.record.specs.Bytes.{Bytes}
 use Rattle.record.specs.Frame.{bodyAt}
 use Rattle.record.specs.Written.{bytes16, bytes32, quadBytesOf}
 use Rattle.record.proofs.Bytes.{length-quads}
-use Rattle.record.proofs.Spelled.{length-quadBytesOf, length-framed, bytes-none, bytes-append, bytes-16, bytes-32, bytes-of-quads, bytes-framed}
+use Rattle.record.proofs.Spelled.{length-quadBytesOf, length-framed, bytes-none, bytes-append, bytes-16, bytes-of-quads, bytes-framed, bytes-opening}
 use Rattle.sent.specs.Kinds.{headKind, rowKind, endKind, rowLength}
 use Rattle.sent.specs.Start.{rowStart, twos16}
 use Rattle.sent.specs.Written.{rowsOf, headRecord, rowRecord, endRecord, rowRecords, tableBytes, fileSize}
@@ -25,10 +25,7 @@ use Rattle.sent.specs.File.{rowPlace, rowAt, cellsFrom}
 
 bytes-head : (head : Head) → Bytes (headRecord head)
 unfolding headRecord
-bytes-head head =
-    bytes-framed headKind (bytes16 (head .height) ++ (bytes32 (head .members) ++ bytes32 (head .columns)))
-    (bytes-append (bytes16 (head .height)) (bytes32 (head .members) ++ bytes32 (head .columns)) (bytes-16 (head .height))
-    (bytes-append (bytes32 (head .members)) (bytes32 (head .columns)) (bytes-32 (head .members)) (bytes-32 (head .columns))))
+bytes-head head = bytes-opening headKind (head .height) (head .members) (head .columns)
 
 bytes-row : (T r : ℕ) (row : List ℕ) → Bytes (rowRecord T r row)
 unfolding rowRecord

@@ -27,7 +27,7 @@ use Rattle.sent.proofs.Starts.{twos-small, start-is, row-cell}
 use Rattle.sent.proofs.Laid.{bytes-table}
 use Rattle.sent.proofs.Rows.{few-rows, cell-place}
 use Rattle.sent.proofs.Reading.{read-back}
-use Rattle.sent.proofs.Writing.{each-row, rows-passed, accepted, written-back, read-sendable}
+use Rattle.sent.proofs.Writing.{Row, each-row, rows-passed, accepted, written-back, read-sendable}
 
 -- READ AFTER WRITE
 pub read-after-write : (held : Held) → Sendable held → tableFile (fileOf held) ≡ done held
@@ -55,23 +55,29 @@ injective held other p q e = let c = sym (read-after-write held p) ∙ ap tableF
 
 module _ (head : Head) (cells : List ℕ) (p : paper.Settings (head .height) (head .members)) (b : Bounded (heldIn head cells)) where
   -- what was asked of it, and what is read in it
-  written-accepted : (first (fileChecks (tableBytes head cells)) ≡ none)
+  pub written-accepted : (first (fileChecks (tableBytes head cells)) ≡ none)
       × (heldIn (headIn (tableBytes head cells)) (cellsIn (tableBytes head cells)) ≡ heldIn head (take (cellsOf head) cells))
   written-accepted = accepted (tableBytes head cells) (bytes-table head cells) (heldIn head (take (cellsOf head) cells)) (read-back head cells p b)
 
-  head-read : headIn (tableBytes head cells) ≡ head
+  pub head-read : headIn (tableBytes head cells) ≡ head
   head-read = ap (λ (held : Held). held .head) (written-accepted .1)
 
   module _ (r : ℕ) (l : r < rowsOf head) where
+    -- row r stands at its place
+    pub row-written : Row (tableBytes head cells) (bytes-table head cells) head r
+    row-written =
+        let s = tableBytes head cells in
+        let passed = subst (λ (h : Head). first (rowsChecks s h (rowsOf h) 0) ≡ none) head-read (rows-passed s (bytes-table head cells) (written-accepted .0)) in
+        let z : 0 + r ≡ r = omega arith in
+        subst (Row s (bytes-table head cells) head) z (each-row s (bytes-table head cells) head (rowsOf head) 0 r l passed)
+
     -- THE START of row r is document 01's, of the row's first cell
     pub start-bytes : signed16 (le16 (tableBytes head cells) (bodyAt (rowPlace (head .members) r))) ≡ startAt (head .members) (r * tmax (head .members))
     start-bytes =
         let T = head .members in
         let s = tableBytes head cells in
         let n = le16 s (bodyAt (rowPlace T r)) in
-        let passed = subst (λ (h : Head). first (rowsChecks s h (rowsOf h) 0) ≡ none) head-read (rows-passed s (bytes-table head cells) (written-accepted .0)) in
-        let z : 0 + r ≡ r = omega arith in
-        let e : n ≡ twos16 (rowStart T r) = rw z at (each-row s (bytes-table head cells) head (rowsOf head) 0 r l passed .start) in
+        let e : n ≡ twos16 (rowStart T r) = row-written .start in
         let few = few-rows (head .height) T p .1 in
         let w : r * tmax T + 0 ≡ r * tmax T = omega arith in
         start-is T r n (omega arith) (omega (arith, twos-small (rowStart T r))) .0 e ∙ sym (row-cell T r 0 (p .some-thickness) .0) ∙ ap (startAt T) w

@@ -1,8 +1,8 @@
 -- A table in order: what 3, 7 and 6, where none of them holds, tell of every cell; and the other way, that a table whose cells are in bounds
 -- passes them. Where the search for 6 finds nothing every cell is within its limit, and no limit is above the greatest. Assumes nothing.
-use mathlib.Core.Path.{_≡_, sym, ap, _∙_}
+use mathlib.Core.Path.{_≡_, sym, _∙_}
 use mathlib.Core.Bool.{false}
-use mathlib.Core.List.{_∷_, [], _++_}
+use mathlib.Core.List.{_∷_, []}
 use mathlib.Core.Option.{none}
 use Prim.Native.Nat.{ℕ, _≤_, _<_}
 use native.Mathlib.Nat.{mod-lt}
@@ -16,7 +16,7 @@ use Rattle.paper.specs.Layer.{tmax}
 use Rattle.paper.specs.Table.{thicknessAt}
 use Rattle.plate.specs.Head.{Held, isOver, cellsOf, limitOf, headChecks, SettingsFor}
 use Rattle.plate.specs.declared.settings.Settings.{Settings}
-use Rattle.plate.proofs.Heads.{cells-for, few-not-over}
+use Rattle.plate.proofs.Heads.{cells-for, not-over, few-not-over}
 use Rattle.table.specs.Cells.{outOfBounds, firstOut}
 use Rattle.table.specs.Table.{short, outCell, boundChecks, tableRest, tableChecks, Bounded, InOrder}
 use Rattle.table.proofs.Cells.{greatest-for}
@@ -82,6 +82,13 @@ module _ (held : Held) where
   bounds-fine b =
       let e = out-fine (b .bounded) in
       simp (few-not-over (held .head) (b .columns), e, le-ltb (cellsOf (held .head)) (cellsOf (held .head)) (omega arith))
+
+  -- and what passes them is in bounds
+  pub bounds-passed : cellsOf (held .head) ≤ length (held .buffer) → first (boundChecks held) ≡ none → Bounded held
+  unfolding boundChecks outCell limitOf
+  bounds-passed size e =
+      let q = first-none (boundChecks held) .0 e in
+      record { size = size; columns = not-over (held .head) (q .0); bounded = all-within (ltb-false (firstOut held) (cellsOf (held .head)) (q .1 .0)) }
 
   -- and 6 alone
   pub cells-fine : Bounded held → outCell held .holds ≡ false
