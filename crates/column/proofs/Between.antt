@@ -10,10 +10,10 @@ use mathlib.Core.List.{List, [], _∷_}
 use native.Mathlib.Omega.{arith}
 use native.Mathlib.Decide.{decLt, ℕ-discrete}
 use lib.Dec.{leb, ltb, lt→ltb, ltb→lt}
-use lib.IntN.{ℤ, pos, negsuc, _+ℤ_}
+use lib.IntN.{ℤ, pos, negsuc, _+ℤ_, +ℤ-idr}
 use lib.ListN.{length, getD}
 use lib.Signed.{leZ, ltZ, ltZ-yes}
-use borrow.Author.Tests.{ltb-true, ltb-false, le-leb, lt-leb, lt-ltb}
+use borrow.Author.Tests.{ltb-true, ltb-false, leb-true, leb-false, le-leb, lt-leb, lt-ltb}
 use Rattle.paper.specs.Layer.{Column, IsColumn, atOrBelow, insideCount, share, Between}
 use Rattle.paper.specs.Table.{natural}
 use Rattle.plate.proofs.Datum.{leb-same}
@@ -177,3 +177,40 @@ module _ (z : ℤ) where
 pub share-between : (N : ℕ) (column : Column) → IsColumn N column → (z : ℤ) (t : ℕ)
     → (0 < share (column .boundaries) z t) ↔ Between (column .boundaries) z t
 share-between N column c z t = (to z (column .boundaries) t, from z (column .boundaries) t (c .rising))
+
+-- a boundary inside a layer is inside a thicker one from the same start
+pub between-wider : (bs : List ℕ) (z : ℤ) (t most : ℕ) → t ≤ most → Between bs z t → Between bs z most
+between-wider bs z t most l w = between z bs (w .index) most (w .there) (after-at z bs t w) (omega (arith, before-at z bs t w))
+
+-- ---- the inside count and the boundaries passed, carried from one voxel to the next
+
+-- one voxel more adds that voxel alone
+pub count-carried : (bs : List ℕ) (z : ℤ) (t : ℕ) → insideCount bs z (t + 1) ≡ insideCount bs z t + atOrBelow bs (z +ℤ pos t) % 2
+count-carried bs z t = let e : t + 1 ≡ suc t = omega arith in ap (insideCount bs z) e ∙ more z bs t
+
+-- a boundary that is the next voxel, by natural numbers
+next-down : (z : ℤ) (b : ℕ) → pos b ≡ z +ℤ pos 1 → b + depth z ≡ natural z + 1
+next-down z b e =
+    let x = leb-true (b + depth z) (natural z + 1) (sym (reaches z b 1) ∙ ap (leZ (pos b)) (sym e) ∙ le-leb b b (omega arith)) in
+    let y = leb-false (suc b + depth z) (natural z + 1) (sym (reaches z (suc b) 1) ∙ ap (leZ (pos (suc b))) (sym e) ∙ lt-leb (suc b) b (omega arith)) in
+    omega arith
+
+next-up : (z : ℤ) (b : ℕ) → b + depth z ≡ natural z + 1 → pos b ≡ z +ℤ pos 1
+next-up (pos n) b e = ap pos (omega arith)
+next-up (negsuc n) b e =
+    let x : b ≡ 0 = omega arith in
+    let y : n ≡ 0 = omega arith in
+    rw (x, y) refl
+
+-- at the next voxel one more boundary is passed where one is there, of boundaries that rise, and as many as before where none is
+pub passed-flips : (bs : List ℕ) (z : ℤ) → Rising bs → (i : ℕ) → i < length bs → pos (getD bs i 0) ≡ z +ℤ pos 1 → atOrBelow bs (z +ℤ pos 1) ≡ atOrBelow bs z + 1
+passed-flips bs z r i l e =
+    let o = one-more z bs i 0 r l (next-down z (getD bs i 0) e) in
+    omega (arith, o, ap (atOrBelow bs) (+ℤ-idr z))
+
+pub passed-stays : (bs : List ℕ) (z : ℤ) → ((i : ℕ) → i < length bs → pos (getD bs i 0) ≡ z +ℤ pos 1 → ⊥) → atOrBelow bs (z +ℤ pos 1) ≡ atOrBelow bs z
+passed-stays bs z never = go (crossed z bs 1)
+  where
+    go : Between bs z 2 ⊎ (atOrBelow bs (z +ℤ pos 1) ≡ atOrBelow bs (z +ℤ pos 0)) → atOrBelow bs (z +ℤ pos 1) ≡ atOrBelow bs z
+    go (inl w) = absurd (never (w .index) (w .there) (next-up z (getD bs (w .index) 0) (omega (arith, after-at z bs 2 w, before-at z bs 2 w))))
+    go (inr e) = e ∙ ap (atOrBelow bs) (+ℤ-idr z)

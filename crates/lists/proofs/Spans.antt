@@ -53,7 +53,7 @@ module _ {A : Type 0} {d : A} where
     span-as f e = record { long = s .long; inside = λ m h. s .inside m h ∙ e m h; below = s .below; above = s .above }
 
   -- the whole front
-  front-inside : {g : ℕ → A → A} {old new : List A} {n : ℕ} → Span d 0 n g old new → (i : ℕ) → i < n → getD new i d ≡ g i (getD old i d)
+  pub front-inside : {g : ℕ → A → A} {old new : List A} {n : ℕ} → Span d 0 n g old new → (i : ℕ) → i < n → getD new i d ≡ g i (getD old i d)
   front-inside {g} {old} {new} s i h = let e : 0 + i ≡ i = omega arith in subst (λ (j : ℕ). getD new j d ≡ g i (getD old j d)) e (s .inside i h)
 
   pub span-is : {g : ℕ → A → A} {old new : List A} (n k : ℕ) → Span d 0 n g old new → n ≤ k → k ≤ n → new ≡ rewritten g k old
