@@ -1,6 +1,6 @@
 -- What a column adds to the cells of a row, and the test of a row's loop. A row's cell has the row's start and the thickness of its place, so
 -- that its addend is the share in that layer. Assumes nothing.
-use mathlib.Core.Path.{_≡_, ap}
+use mathlib.Core.Path.{_≡_, refl, ap}
 use mathlib.Core.Bool.{Bool, true, false, cond, _&&_}
 use mathlib.Core.List.{List}
 use Prim.Native.Nat.{ℕ, _+_, _*_, _/_, _≤_, _<_}
@@ -34,6 +34,15 @@ addend-le T i column = go (allowed T (thicknessAt T i))
     go : (b : Bool) → cond b (share (column .boundaries) (startAt T i) (thicknessAt T i)) 0 ≤ thicknessAt T i / 2
     go true = share-le (column .boundaries) (startAt T i) (thicknessAt T i)
     go false = omega arith
+
+-- and above 0 only where the thickness is allowed
+pub addend-touched : (T i : ℕ) (column : Column) → 0 < addend T column i → allowed T (thicknessAt T i) ≡ true
+unfolding addend cellOf
+addend-touched T i column l = go (allowed T (thicknessAt T i)) l
+  where
+    go : (b : Bool) → 0 < cond b (share (column .boundaries) (startAt T i) (thicknessAt T i)) 0 → b ≡ true
+    go true u = refl
+    go false u = absurd (omega arith)
 
 module _ (T : ℕ) (limits table : List ℕ) (column : Column) where
   -- the cell at a place of a row

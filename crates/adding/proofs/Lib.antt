@@ -1,3 +1,4 @@
 pub mod Addends
+pub mod Near
 pub mod Passed
 pub mod Plates

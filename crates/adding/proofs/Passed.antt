@@ -2,27 +2,28 @@
 -- limit. And the other way: a table in bounds passes 6. Assumes nothing.
 use mathlib.Core.Path.{_≡_, refl, sym}
 use mathlib.Core.Bool.{Bool, true, false, _&&_}
-use mathlib.Core.List.{[], _∷_, _++_}
 use mathlib.Core.Option.{none}
 use Prim.Native.Nat.{ℕ, _+_, _≤_, _<_}
 use native.Mathlib.Omega.{arith}
 use borrow.Author.Tests.{le-ltb, ltb-false}
 use lib.Dec.{ltb}
 use lib.ListN.{length, getD}
-use Rattle.lists.specs.Checks.{first}
+use Rattle.lists.specs.Checks.{first, Quiet}
 use Rattle.lists.proofs.Checks.{first-none, first-later}
 use Rattle.lists.proofs.Search.{lowest-none, lowest-before}
-use Rattle.paper.specs.Layer.{Column}
+use Rattle.paper.specs.Layer.{Column, IsColumn}
 use Rattle.paper.specs.Table.{thicknessAt}
-use Rattle.plate.specs.Head.{Held, isOver, cellsOf, limitOf, headChecks, SettingsFor}
+use Rattle.plate.specs.Head.{Held, isOver, isFull, cellsOf, limitOf, headChecks, SettingsFor}
 use Rattle.plate.specs.declared.settings.Settings.{Settings}
 use Rattle.plate.proofs.Heads.{cells-for, full-over}
 use Rattle.column.specs.Order.{columnChecks}
+use Rattle.column.proofs.Fine.{column-passed}
 use Rattle.table.specs.Cells.{outOfBounds}
 use Rattle.table.specs.Table.{short}
 use Rattle.table.proofs.Limits.{limit-le}
 use Rattle.table.proofs.Passed.{thickness-small}
-use Rattle.adding.specs.Adding.{addend, overfull, firstOverfull, overfullCell, addRest, adding, Addable}
+use Rattle.adding.specs.Adding.{addend, overfull, firstOverfull, Addable}
+use Rattle.adding.specs.Ordered.{orderRest, orderChecks}
 use Rattle.adding.proofs.Addends.{addend-le}
 
 module _ (held : Held) (column : Column) where
@@ -45,19 +46,26 @@ module _ (held : Held) (column : Column) where
         go false e q = let z = ltb-false 0 (addend (held .head .members) column i) e in omega arith
 
     -- passed: what is known then
-    pub add-passed : none ≡ first (adding held column .checks) → Addable held column s
-    unfolding adding addRest short overfullCell
-    add-passed e =
-        let r = first-later (headChecks (held .head)) (addRest held column) (sym e) in
-        let q = first-none (addRest held column) .0 r in
-        let room = ltb-false (length (held .buffer)) (cellsOf (held .head)) (q .0) in
-        let last = first-later (columnChecks (held .head .height) (column .boundaries)) (overfullCell held column ∷ []) (first-none (columnChecks (held .head .height) (column .boundaries) ++ (overfullCell held column ∷ [])) .1 (q .1 .1)) in
-        let over = ltb-false (firstOverfull held column) (cellsOf (held .head)) (first-none (overfullCell held column ∷ []) .0 last .0) in
-        record {
-          room = omega (arith, room, cells-for k);
-          few = q .1 .0;
-          fits = λ i l w. overfull-fits over (full-over (held .head) (q .1 .0)) i (omega (arith, cells-for k)) w;
-        }
+    pub add-passed : s .cells ≤ length (held .buffer) → isFull (held .head) ≡ false → cellsOf (held .head) ≤ firstOverfull held column → Addable held column s
+    add-passed room few over = record { room = room; few = few; fits = λ i l w. overfull-fits over (full-over (held .head) few) i (omega (arith, cells-for k)) w }
+
+  -- what is known where all but 6 is in order
+  module _ (e : none ≡ first (orderChecks held column)) where
+    quiet : Quiet (orderRest held column)
+    unfolding orderChecks
+    quiet = first-none (orderRest held column) .0 (first-later (headChecks (held .head)) (orderRest held column) (sym e))
+
+    pub room-passed : cellsOf (held .head) ≤ length (held .buffer)
+    unfolding orderRest short
+    room-passed = ltb-false (length (held .buffer)) (cellsOf (held .head)) (quiet .0)
+
+    pub few-passed : isFull (held .head) ≡ false
+    unfolding orderRest
+    few-passed = quiet .1 .0
+
+    pub order-passed : IsColumn (held .head .height) column
+    unfolding orderRest
+    order-passed = column-passed (held .head .height) (column .boundaries) (first-none (columnChecks (held .head .height) (column .boundaries)) .1 (quiet .1 .1))
 
   -- where every cell is in bounds the search finds none
   pub overfull-fine : ((i : ℕ) → i < cellsOf (held .head) → getD (held .buffer) i 0 ≤ limitOf (held .head) (thicknessAt (held .head .members) i))

@@ -1,31 +1,36 @@
--- `add_column` meets its contract: the refusals of `check_adding`, or every row is rewritten. Assumes nothing.
-use mathlib.Core.Path.{_≡_, sym, ap, _∙_}
-use mathlib.Core.List.{List}
-use mathlib.Core.Option.{none}
-use Prim.Native.Nat.{ℕ, _+_, _≤_}
+-- `add_column` meets its contract: the refusals of `check_adding`, and then what `add_ordered` does. Assumes nothing.
+use mathlib.Core.Path.{_≡_, sym, ap, _∙_, subst}
+use mathlib.Core.List.{List, [], _∷_}
+use mathlib.Core.Option.{Option, none}
+use Prim.Native.Nat.{ℕ}
 use native.Mathlib.Omega.{arith}
 use borrow.Author.Needs.{needs}
 use Rattle.lists.specs.Checks.{first}
-use Rattle.lists.specs.Rewrite.{rewritten, Span}
-use Rattle.lists.proofs.Spans.{span-is}
-use Rattle.paper.specs.Layer.{Column, columnOf}
-use Rattle.plate.specs.Head.{Held, heldIn, more, cellsOf, SettingsFor}
+use Rattle.paper.specs.Layer.{Column, columnOf, IsColumn}
+use Rattle.plate.specs.Call.{Does}
+use Rattle.plate.specs.Refusal.{Told, Numbered, toldBy, after}
+use Rattle.plate.specs.Head.{Held, heldIn, more, SettingsFor}
+use Rattle.plate.specs.Settings.{settingsChecks, saidMade}
+use Rattle.plate.specs.declared.head.Head.{Head}
 use Rattle.plate.specs.declared.settings.Settings.{Settings}
-use Rattle.plate.proofs.Calls.{judged-bad, judged-good, works}
-use Rattle.plate.proofs.Heads.{cells-for, members-for}
-use Rattle.adding.specs.Adding.{addend, added, adding, Addable}
-use Rattle.adding.proofs.Passed.{add-passed}
+use Rattle.plate.proofs.Calls.{refuses, stopped, passed}
+use Rattle.plate.proofs.Heads.{cells-for, height-for}
+use Rattle.adding.specs.Adding.{overfullCell, addRest, added, adding}
+use Rattle.adding.specs.Ordered.{orderRest, orderChecks, addingOrdered}
+use Rattle.adding.proofs.Passed.{room-passed, few-passed, order-passed}
 use Rattle.adding.proofs.add_column.Statement.{statement}
 use Rattle.adding.proofs.add_column.Tie as tie
 
--- every cell is rewritten
-whole : (held : Held) (column : Column) (s : Settings) → SettingsFor (held .head) s → Addable held column s → (now : List ℕ)
-    → Span 0 0 (s .cells) (λ i x. x + addend (s .members) column i) (held .buffer) now → now ≡ added held column
-unfolding added
-whole held column s k p now w =
-    span-is (s .cells) (cellsOf (held .head)) w (omega (arith, p .room, cells-for k)) (omega (arith, p .room, cells-for k))
-    ∙ ap (λ (T : ℕ). rewritten (λ i x. x + addend T column i) (cellsOf (held .head)) (held .buffer)) (members-for k)
+-- 6 is the last check: where those before it pass, what is done with the rest is the call
+then : (held : Held) (column : Column) → first (overfullCell held column ∷ []) ≡ first (adding held column .checks)
+    → {told : Told Head} {now : List ℕ} → Does (addingOrdered held column) told now → Does (adding held column) told now
+unfolding adding addingOrdered
+then held column e d = record {
+  tells = d .tells ∙ ap (λ (o : Option Numbered). toldBy o (more (held .head))) e;
+  leaves = d .leaves ∙ ap (λ (o : Option Numbered). after (toldBy o (more (held .head))) (added held column) (held .buffer)) e;
+}
 
+-- where `check_adding` passes
 module _ (c : tie.After-known-told2) where
   abbrev s : tie.Start
   s = c .before .before .before .before .before .before .before
@@ -39,27 +44,25 @@ module _ (c : tie.After-known-told2) where
   abbrev made : Settings
   made = c .before .made2 .given .0 .0
 
-  passed : none ≡ first (adding held column .checks)
-  passed = judged-good (adding held column) (c .before .before .before .check-adding .ensures) _ (c .before .made2 .given .1)
+  ordered : none ≡ first (orderChecks held column)
+  ordered = ap saidMade (sym (c .before .made2 .given .1)) ∙ c .before .before .before .check-adding .ensures .says
 
   for : SettingsFor (s .args .head) made
   for = let g = c .before .before .before .check-adding .ensures .good _ (c .before .made2 .given .1) in record { is = g .0; sound = g .1 }
 
-  addable : Addable held column made
-  addable = add-passed held column for passed
-
 returns : tie.Need-returns
-unfolding adding
+unfolding adding addRest orderChecks orderRest settingsChecks
 returns c =
     let s = c .before .before .before .before .before .before .before in
-    judged-bad (adding (heldIn (s .args .head) (s .args .table .now)) (columnOf (s .args .column .now))) (c .before .before .before .check-adding .ensures) _ (c .before .made .given .1)
+    let held = heldIn (s .args .head) (s .args .table .now) in
+    let column = columnOf (s .args .column .now) in
+    refuses (adding held column) (c .before .made .given .0 .0) (stopped (c .before .before .before .check-adding .ensures) (overfullCell held column ∷ []) _ (c .before .made .given .1))
 
 returns-2 : tie.Need-returns-2
-unfolding adding
+unfolding adding addRest orderChecks orderRest settingsChecks
 returns-2 c =
-    let d = c .before .before .before .before .before in
-    let e : c .with-column .result ≡ more (s d .args .head) = c .with-column .ensures ∙ rw (addable d .few) in
-    works (adding (held d) (column d)) _ _ (passed d) e (whole (held d) (column d) _ (for d) (addable d) _ (c .before .before .before .add-rows .ensures))
+    let d = c .before .before .before .before in
+    then (held d) (column d) (passed (d .before .before .before .check-adding .ensures) (overfullCell (held d) (column d) ∷ []) _ (d .before .made2 .given .1)) (c .before .before .add-ordered .ensures)
 
 pub add-column-spec : {M : Type 1} → statement M
 add-column-spec =
@@ -68,8 +71,14 @@ add-column-spec =
     (λ c κs. search needs)
     (λ c. search needs)
     (λ c. search needs)
-    (λ c κs. let d = c .before in let p = addable d in let k = for d in (k .sound, (p .room, λ i l. rw (members-for k) (p .fits i l (omega (arith, d .before .before .before .before .before .before .slice-known .given i .fits))))))
-    (λ c κs. search needs)
+    (λ c κs.
+    let d = c .before in (
+      for d,
+      (
+        (few-passed (held d) (column d) (ordered d), omega (arith, room-passed (held d) (column d) (ordered d), cells-for (for d))),
+        subst (λ (N : ℕ). IsColumn N (column d)) (sym (height-for (for d))) (order-passed (held d) (column d) (ordered d)),
+      ),
+    ))
     (λ c. search needs)
     returns
     (λ c. search needs)

@@ -1,21 +1,21 @@
 -- `check_adding` meets its contract: the refusals of the settings, and then those of `check_rest`. Assumes nothing.
-use mathlib.Core.Path.{_≡_, refl, sym, ap, _∙_}
+use mathlib.Core.Path.{refl, sym, ap, _∙_}
 use borrow.Author.Needs.{needs}
 use Rattle.plate.specs.Settings.{saidMade}
 use Rattle.plate.specs.Head.{headChecks}
 use Rattle.plate.proofs.Calls.{judges-bad, judges-then, stopped}
-use Rattle.adding.specs.Adding.{adding}
+use Rattle.adding.specs.Ordered.{orderChecks}
 use Rattle.adding.proofs.check_adding.Statement.{statement}
 use Rattle.adding.proofs.check_adding.Tie as tie
 
 returns : tie.Need-returns
-unfolding adding
+unfolding orderChecks
 returns c =
     let m = c .before .made .given in
     judges-bad _ _ _ _ _ refl (stopped (c .before .before .before .new .ensures) _ (m .0 .0) (m .1))
 
 returns-2 : tie.Need-returns-2
-unfolding adding
+unfolding orderChecks
 returns-2 c =
     let n = c .before .before .before .before .new .ensures in
     let s = c .before .before .before .before .before .before .before in

@@ -1,0 +1,3 @@
+pub mod Caps
+pub mod Carried
+pub mod Facing
