@@ -6,6 +6,7 @@ pub mod Groups
 pub mod Plans
 pub mod Recounts
 pub mod EmptyLayers
+pub mod Carrying
 pub mod Refusals
 pub mod Orders
 pub mod Told

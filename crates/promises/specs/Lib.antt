@@ -3,6 +3,7 @@ pub mod Errors
 pub mod Plans
 pub mod Recounts
 pub mod EmptyLayers
+pub mod Carrying
 pub mod Refusals
 pub mod Orders
 pub mod Told
