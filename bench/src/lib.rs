@@ -6,6 +6,7 @@ pub mod make;
 pub mod plain;
 pub mod quick;
 pub mod random;
+pub mod work;
 
 #[cfg(feature = "library")]
 pub mod library;

@@ -137,6 +137,23 @@ pub const FAULTS: &[&str] = &[
     "write table: 3 for the output is at 3",
     "write table: a byte is written though 6 is answered",
     "write table: the opening is written though 3 is answered",
+    "add: the carried count is not reset at a new start",
+    "add: the count is carried past tmax into the next row",
+    "add: a boundary at the layer's end is counted in",
+    "add: the flip comes after the voxel is counted",
+    "add: of two boundaries 1 apart the second is passed over",
+    "add: the 64th boundary is passed over",
+    "add: the rows near a boundary begin one row late",
+    "add: the rows near the last boundary are left out",
+    "add: starts below 0 are left out",
+    "add: layers that end above N are left out",
+    "add: 6 is asked of thicknesses that are not allowed",
+    "add: 6 at the highest such cell",
+    "add: 6 at the highest such cell of the lowest row",
+    "add: 6 against the count times t",
+    "add: 6 against the count with the column",
+    "add: the cells before are written though 6 is answered",
+    "add: a cell of share 0 is brought into bounds",
 ];
 
 fn fault() -> usize {
@@ -209,6 +226,10 @@ unsafe extern "C" fn shagorent_add_column(
     let (table, column) = (lent_mut(table, n), lent(column, boundaries));
     let before = table.to_vec();
     let mut answer = plain::add_column(table, head, column);
+    if answer.err().is_none_or(|refusal| refusal.number == 6) {
+        table.copy_from_slice(&before);
+        answer = add_carrying(table, head, column);
+    }
     if answer.is_ok() && is("add: twice the share") {
         table.iter_mut().zip(&before).for_each(|(cell, before)| *cell += *cell - before);
     }
@@ -230,6 +251,93 @@ unsafe extern "C" fn shagorent_add_column(
         tabled.head.columns = head.columns;
     }
     tabled
+}
+
+/// Adding, where nothing before 6 refuses it, with the inside count carried along: without a fault it does what the plain one does.
+fn add_carrying(table: &mut [u32], head: Head, column: &[u16]) -> Answer<Head> {
+    let plate = head.plate()?;
+    let shares = carried(plate, column);
+    let allowed = |cell: usize| plate.allows(plate.layer(cell).1);
+    let place = cell_over(plate, table, head.columns, &shares);
+    let adds = place.is_none() || is("add: the cells before are written though 6 is answered");
+    for cell in (0..place.unwrap_or(plate.cells())).filter(|&cell| adds && allowed(cell)) {
+        table[cell] = table[cell].wrapping_add(shares[cell]);
+        if shares[cell] == 0 && is("add: a cell of share 0 is brought into bounds") {
+            table[cell] = table[cell].min(plate.limit(cell, head.columns));
+        }
+    }
+    match place {
+        Some(cell) => Err(Refusal { number: 6, place: cell as u64 }),
+        None => Ok(plate.head(head.columns + 1)),
+    }
+}
+
+/// The share of each layer near a boundary, allowed or not.
+fn carried(plate: Plate, column: &[u16]) -> Vec<u32> {
+    let column = boundaries_seen(column);
+    let (ahead, behind) =
+        (is("add: a boundary at the layer's end is counted in"), is("add: the flip comes after the voxel is counted"));
+    let past = i64::from(is("add: the count is carried past tmax into the next row"));
+    let is_reset = !is("add: the carried count is not reset at a new start");
+    let mut shares = vec![0; plate.cells()];
+    let mut inside = 0;
+    for start in rows_near(plate, &column) {
+        inside = if is_reset { 0 } else { inside };
+        for thickness in 1..=plate.tmax + past {
+            let voxel = start + thickness - 1;
+            let judged = if thickness == 1 { voxel } else { voxel + i64::from(ahead) - i64::from(behind) };
+            inside += (column.partition_point(|&boundary| boundary <= judged) % 2) as i64;
+            let share = inside.min((thickness - inside).abs());
+            let is_left_out = voxel >= plate.height && is("add: layers that end above N are left out");
+            if let Some(held) = shares.get_mut(plate.cell(start, thickness)).filter(|_| !is_left_out) {
+                *held = share as u32;
+            }
+        }
+    }
+    shares
+}
+
+/// The boundaries that adding takes note of.
+fn boundaries_seen(column: &[u16]) -> Vec<i64> {
+    let mut seen: Vec<i64> = column.iter().map(|&boundary| i64::from(boundary)).collect();
+    if is("add: the 64th boundary is passed over") {
+        seen.truncate(63);
+    }
+    if is("add: of two boundaries 1 apart the second is passed over") {
+        seen.dedup_by(|boundary, before| *boundary == *before + 1);
+    }
+    seen
+}
+
+/// The starts, rising, of which a layer can have a boundary strictly between its ends.
+fn rows_near(plate: Plate, column: &[i64]) -> Vec<i64> {
+    let (late, short) = (
+        i64::from(is("add: the rows near a boundary begin one row late")),
+        usize::from(is("add: the rows near the last boundary are left out")),
+    );
+    let least = if is("add: starts below 0 are left out") { 0 } else { plate.lowest() };
+    let near = &column[..column.len().saturating_sub(short)];
+    let is_near = |start: &i64| near.iter().any(|b| (b - plate.tmax + 1 + late..*b).contains(start));
+    (least..=plate.last_start()).filter(is_near).collect()
+}
+
+/// The cell that 6 is answered at.
+fn cell_over(plate: Plate, table: &[u32], columns: u32, shares: &[u32]) -> Option<usize> {
+    let any = is("add: 6 is asked of thicknesses that are not allowed");
+    let counted = columns + u32::from(is("add: 6 against the count with the column"));
+    let is_asked = |cell: usize| shares[cell] > 0 && (any || plate.allows(plate.layer(cell).1));
+    let passes =
+        |cell: usize| wrong_limit("add", plate, cell, columns).is_some_and(|limit| u64::from(table[cell]) <= limit);
+    let is_over = |&cell: &usize| is_asked(cell) && table[cell] > plate.limit(cell, counted) && !passes(cell);
+    let over: Vec<usize> = (0..plate.cells()).filter(is_over).collect();
+    let row = |cell: usize| cell / plate.tmax as usize;
+    if is("add: 6 at the highest such cell") {
+        return over.last().copied();
+    }
+    if is("add: 6 at the highest such cell of the lowest row") {
+        return over.iter().rev().find(|&&cell| row(cell) == row(over[0])).copied();
+    }
+    over.first().copied()
 }
 
 #[no_mangle]

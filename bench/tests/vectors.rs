@@ -1,5 +1,5 @@
-// Document 01's own cases by the plain implementation, with 02's b): the worked plate, P1 to P13, and the limits on both sides; its plate as a
-// table file. Then the outside vectors of b) and c), by the quick one too where it has the call.
+// Document 01's own cases by the plain implementation, with 02's b): the worked plate, P1 to P13, and the limits on both sides; columns cell by
+// cell; its plate as a table file. Then the outside vectors of b) and c), by the quick one too where it has the call.
 
 use bench::plain::*;
 use bench::quick::{self, Reach};
@@ -126,6 +126,72 @@ fn marked_p() {
     assert_eq!(chosen(4, 6, &[A, B], 0, 2), refused(11, 0));
     assert_eq!(chosen(4, 6, &[A, B], 1, 2), Ok((2, vec![0, 2, 4])));
     assert_eq!(motor_height(15, -1), Ok(-1.875));
+}
+
+/// By the plain adder and the quick ones, which leave what they refuse as it was.
+fn added(table: &[u32], head: Head, column: &[u16]) -> Answer<(Head, Vec<u32>)> {
+    let [plain, by_algorithm_1, carrying] = [add_column, quick::add_by_algorithm_1, quick::add_carrying].map(|add| {
+        let mut cells = table.to_vec();
+        let answer = add(&mut cells, head, column);
+        assert!(answer.is_ok() || cells == table);
+        answer.map(|head| (head, cells))
+    });
+    assert_eq!(plain, by_algorithm_1);
+    assert_eq!(plain, carrying);
+    plain
+}
+
+/// The cells of a column alone on a plate of height 4, row by row from the start −2, thicknesses 1 to 3.
+#[test]
+fn columns_cell_by_cell() {
+    let alone = |set: u32, column: &[u16]| added(&[0; 24], head_of(4, set, 0), column).map(|(_, cells)| cells);
+    let rows = |rows: [[u32; 3]; 8]| Ok(rows.concat());
+    let none = [0, 0, 0];
+    assert_eq!(alone(6, A), rows([none, [0, 0, 1], [0, 1, 1], none, [0, 0, 1], [0, 1, 1], none, none]));
+    assert_eq!(alone(6, &[0, 4]), rows([[0, 0, 1], [0, 1, 1], none, none, [0, 0, 1], [0, 1, 1], none, none]));
+    assert_eq!(alone(6, &[1, 2]), rows([none, [0, 0, 1], [0, 1, 1], [0, 1, 1], none, none, none, none]));
+    assert_eq!(alone(4, &[1, 2]), rows([none, [0, 0, 1], [0, 0, 1], [0, 0, 1], none, none, none, none]));
+    assert_eq!(alone(6, &[]), rows([none; 8]));
+    assert_eq!(table_of(4, 6, &[A, B]), [0, 0, 1, 0, 1, 2, 0, 1, 1, 0, 0, 1, 0, 1, 2, 0, 1, 1, 0, 0, 0, 0, 0, 0]);
+}
+
+/// N = 1 and T {32}: the one voxel is alone in each layer that holds it, those from the starts −31 to 0.
+#[test]
+fn thickness_32_alone() {
+    let set = 1 << 31;
+    let expected: Vec<u32> = (0..63 * 32).map(|cell| u32::from(cell % 32 == 31 && cell / 32 <= 31)).collect();
+    assert_eq!(added(&[0; 63 * 32], head_of(1, set, 0), &[0, 1]), Ok((head_of(1, set, 1), expected)));
+}
+
+/// T {1} has no layer with a boundary strictly within, so that a column is only counted; and so is one without boundaries.
+#[test]
+fn columns_that_add_nothing() {
+    let anything = [ANY; 24];
+    let counted = |set| Ok((head_of(4, set, 1), anything.to_vec()));
+    assert_eq!(added(&anything, head_of(4, 1, 0), A), counted(1));
+    assert_eq!(added(&anything, head_of(4, 1, 0), &[0, 1, 2, 3]), counted(1));
+    assert_eq!(added(&anything, head_of(4, 6, 0), &[]), counted(6));
+}
+
+/// Column A changes these cells of a plate of height 4 with T {2, 3}, see above; of others 6 is not asked.
+#[test]
+fn cells_that_6_is_asked_of() {
+    let changed = [5, 7, 8, 14, 16, 17];
+    let with = |set: &[usize]| {
+        let mut table = [0; 24];
+        set.iter().for_each(|&cell| table[cell] = 1);
+        added(&table, head_of(4, 6, 0), A)
+    };
+    for one in changed {
+        for other in changed {
+            assert_eq!(with(&[one, other]), refused(6, one.min(other) as u64));
+        }
+    }
+    let mut table = [ANY; 24];
+    changed.iter().for_each(|&cell| table[cell] = 0);
+    let mut expected = table;
+    changed.iter().for_each(|&cell| expected[cell] = 1);
+    assert_eq!(added(&table, head_of(4, 6, 0), A), Ok((head_of(4, 6, 1), expected.to_vec())));
 }
 
 #[test]

@@ -7,12 +7,18 @@ use bench::make::{self, Table};
 use bench::plain::{self, Answer, Columns, Filled, Head, Plate, Sheets};
 use bench::quick::{self, Reach, Rising};
 use bench::random::Random;
+use bench::work::{self, Way, WAYS};
 use std::hint::black_box;
+use std::iter::repeat_n;
 use std::time::{Duration, Instant};
 
 const SEED: u64 = 7;
 const ROUNDS: usize = 101;
 const LEAST_ROUNDS: usize = 9;
+/// Of 100,000 columns, seconds a round.
+const FULL_ROUNDS: usize = 5;
+/// Of how the cost grows.
+const GROWTH_ROUNDS: usize = 9;
 const ALL: u32 = u32::MAX;
 const FOUR_TO_SIXTEEN: u32 = 0xFFF8;
 const TWO_AND_THREE: u32 = 6;
@@ -159,32 +165,71 @@ const ADDERS: [Adder; 3] = [
     |table, head, column| good(quick::add_carrying(table, head, column)),
 ];
 
-fn add_all(adder: Adder, plate: Plate, cells: &mut [u32], columns: &[Vec<u16>]) -> Head {
-    columns.iter().fold(plate.head(0), |head, column| adder(cells, head, column))
+/// Columns to be added to a cleared table: a list of them, gone through again and again up to their number.
+struct ManyColumns {
+    plate: Plate,
+    list: Vec<Vec<u16>>,
+    number: usize,
 }
 
-fn adding(rounds: usize, boundaries: usize) {
-    let plate = Plate::new(512, ALL).expect("allowed");
-    let columns = columns_of(plate, boundaries);
-    let expected = make::tabulate(plate, &columns).cells;
-    let mut cells = vec![0; plate.cells()];
+impl ManyColumns {
+    fn new(height: u32, set: u32, number: usize, boundaries: usize) -> ManyColumns {
+        let plate = Plate::new(height, set).expect("allowed");
+        ManyColumns { plate, list: columns_of(plate, boundaries), number }
+    }
+
+    /// How often the list is gone through whole, and the part of it that is left.
+    fn parts(&self) -> (usize, &[Vec<u16>]) {
+        let (times, rest) = (self.number / self.list.len(), self.number % self.list.len());
+        (times, &self.list[..rest])
+    }
+
+    fn add(&self, adder: Adder, cells: &mut [u32]) -> Head {
+        let (times, rest) = self.parts();
+        let lists = repeat_n(&self.list[..], times).chain([rest]);
+        lists.fold(self.plate.head(0), |head, list| list.iter().fold(head, |head, column| adder(cells, head, column)))
+    }
+
+    /// The cells that the columns give: a layer's error is the sum of its shares, so that a list twice gives twice its cells.
+    fn cells(&self) -> Vec<u32> {
+        let (times, rest) = self.parts();
+        let [whole, rest] = [&self.list[..], rest].map(|list| make::tabulate(self.plate, list).cells);
+        whole.iter().zip(rest).map(|(whole, rest)| whole * times as u32 + rest).collect()
+    }
+}
+
+/// What each adder answers and leaves, beside the plain one's.
+fn compare_adders(many: &ManyColumns, cells: &mut [u32]) {
+    let expected = many.cells();
     for adder in ADDERS {
         cells.fill(0);
-        add_all(adder, plate, &mut cells, &columns);
-        assert!(cells == expected);
+        let head = many.add(adder, cells);
+        assert!(head == many.plate.head(many.number as u32) && *cells == expected[..]);
     }
+}
+
+fn adding(rounds: usize, many: &ManyColumns) -> Times {
+    let mut cells = vec![0; many.plate.cells()];
+    compare_adders(many, &mut cells);
     let contender = |adder: Adder| -> Contender<Vec<u32>> {
-        let columns = &columns;
         Box::new(move |cells| {
             cells.fill(0);
             clocked(|| {
-                black_box(add_all(adder, plate, cells, black_box(columns)));
+                black_box(black_box(many).add(adder, cells));
             })
         })
     };
-    let taken = time(rounds, &mut cells, &ADDERS.map(contender));
-    let each: Vec<String> = (0..3).map(|i| format!("{:.2}", taken.of(i) / 1_000_000.0)).collect();
-    println!("| {boundaries} | {} | {} | {} |", each.join(" | "), taken.ratio(1), taken.ratio(2));
+    time(rounds, &mut cells, &ADDERS.map(contender))
+}
+
+fn adding_row(name: &str, unit: f64, decimals: usize, taken: &Times) {
+    let each: Vec<String> = (0..3).map(|i| format!("{:.decimals$}", taken.of(i) / unit)).collect();
+    println!("| {name} | {} | {} | {} |", each.join(" | "), taken.ratio(1), taken.ratio(2));
+}
+
+/// In µs a column.
+fn column_row(name: &str, many: &ManyColumns, taken: &Times) {
+    adding_row(name, 1_000.0 * many.number as f64, 3, taken);
 }
 
 /// 1,000 columns of so many boundaries each, spread over the height at random.
@@ -443,11 +488,66 @@ fn plans(rounds: usize) {
     println!("\nA step is one height × count × thickness, of (N+2·tmax−1) · M · |T|; the source paper's Table I comes to about 4 ns a step.");
 }
 
-fn additions(_: usize) {
-    println!("| boundaries of each of 1,000 columns | library, ms | Algorithm 1, ms | carrying, ms | / Algorithm 1 | / carrying |");
+/// The head of a table of adding: its first cell, and the contenders.
+fn adding_head(first: &str) {
+    println!("| {first} | library | Algorithm 1 | carrying | / Algorithm 1 | / carrying |");
     println!("|---|---|---|---|---|---|");
-    for boundaries in [2, 4, 8, 64] {
-        adding(LEAST_ROUNDS, boundaries);
+}
+
+fn additions(rounds: usize) {
+    adding_head("adding 1,000 columns, N = 512, µs a column");
+    for (name, set) in [("all 32", ALL), ("{4..16}", FOUR_TO_SIXTEEN), ("{2, 3}", TWO_AND_THREE)] {
+        for boundaries in [0, 2, 4, 8, 64] {
+            let many = ManyColumns::new(512, set, 1_000, boundaries);
+            column_row(&format!("{name}, {boundaries} boundaries"), &many, &adding(rounds, &many));
+        }
+    }
+}
+
+/// Adding at full size, and how its cost grows.
+fn full(_: usize) {
+    adding_head("adding at full size, N = 512, all 32, ms");
+    let many = ManyColumns::new(512, ALL, 100_000, 4);
+    let taken = adding(FULL_ROUNDS, &many);
+    adding_row("100,000 columns of 4 boundaries", 1_000_000.0, 1, &taken);
+
+    println!();
+    adding_head("columns of 4 boundaries, N = 512, all 32, µs a column");
+    for (name, number) in [("100", 100), ("1,000", 1_000), ("10,000", 10_000)] {
+        grown(name, &ManyColumns::new(512, ALL, number, 4));
+    }
+    column_row("100,000", &many, &taken);
+
+    println!();
+    adding_head("boundaries of each of 1,000 columns, N = 512, all 32, µs a column");
+    for boundaries in [0, 2, 4, 8, 16, 32, 64] {
+        grown(&boundaries.to_string(), &ManyColumns::new(512, ALL, 1_000, boundaries));
+    }
+
+    println!();
+    adding_head("N, 1,000 columns of 4 boundaries, all 32, µs a column");
+    for height in [64, 128, 256, 512] {
+        grown(&height.to_string(), &ManyColumns::new(height, ALL, 1_000, 4));
+    }
+}
+
+/// One row of how the cost of adding grows.
+fn grown(name: &str, many: &ManyColumns) {
+    column_row(name, many, &adding(GROWTH_ROUNDS, many));
+}
+
+/// Not timed: the voxels looked at, as they are counted.
+fn looks(_: usize) {
+    let plate = Plate::new(512, ALL).expect("allowed");
+    println!(
+        "| voxels looked at in one pass, N = 512, all 32 | rows near | every layer from its first voxel | carried, all rows | near rows | \
+         from the first boundary on |"
+    );
+    println!("|---|---|---|---|---|---|");
+    for (name, column) in work::told_columns() {
+        let near = work::work(Way::NearRows, plate, &column).rows;
+        let looks = WAYS.map(|way| work::work(way, plate, &column).looks.to_string());
+        println!("| {name} | {near} | {} |", looks.join(" | "));
     }
 }
 
@@ -476,15 +576,17 @@ fn files(rounds: usize) {
     sending(rounds, "N = 64, {2, 3}", 64, TWO_AND_THREE, 2_000);
 }
 
-/// One table of speeds, and the word that asks for it alone.
+/// One table, or those of one matter, and the word that asks for it alone.
 struct Speeds {
     word: &'static str,
     print: fn(usize),
 }
 
-const TABLES: [Speeds; 5] = [
+const TABLES: [Speeds; 7] = [
     Speeds { word: "planning", print: plans },
     Speeds { word: "adding", print: additions },
+    Speeds { word: "full", print: full },
+    Speeds { word: "work", print: looks },
     Speeds { word: "joining", print: tables },
     Speeds { word: "writing", print: jobs },
     Speeds { word: "sending", print: files },
@@ -495,7 +597,8 @@ fn main() {
     let asked = words.next().and_then(|word| word.parse().ok());
     let only = words.next();
     let rounds = asked.unwrap_or(ROUNDS).max(LEAST_ROUNDS);
-    println!("Medians of {rounds} rounds (adding: {LEAST_ROUNDS}); ratios are library / Rust, in brackets a round's lowest and highest.");
+    println!("Medians of {rounds} rounds, of {FULL_ROUNDS} for adding at full size and {GROWTH_ROUNDS} for how its cost grows.");
+    println!("Ratios are library / Rust, in brackets a round's lowest and highest.");
     println!("Sheets and outputs hold the round before and are not cleared; tables are cleared or set back outside the clock.");
     for table in TABLES.iter().filter(|table| only.as_ref().is_none_or(|only| only == table.word)) {
         println!();

@@ -1,6 +1,7 @@
 // Cases that are run every time: the limits that document 01 wants run on both sides, every sequence of small plates and walks down their
-// sheets, every motor height, files of 1,000,000 columns, read and written, and table files changed in one place or two.
+// sheets, every motor height, files of 1,000,000 columns, read and written, table files changed in one place or two, and those of adding.
 
+use crate::adding::adding;
 use crate::cases::{added, lifted, loaded, pictured, planned, read, read_as_it_was, received, recounted, sent};
 use crate::cases::{sized, sizes_of, written};
 use crate::cases::{LentSheets, Outcome, Saved};
@@ -41,6 +42,7 @@ pub fn edges(random: &mut Random) -> Result<u64, String> {
     saved_boundaries(random, &mut note)?;
     saved_plates(random, &mut note)?;
     saved_orders(random, &mut note)?;
+    adding(random, &mut note)?;
     Ok(cases)
 }
 

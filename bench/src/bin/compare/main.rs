@@ -1,6 +1,7 @@
 // Compares the proved library with the plain implementation, case by case, and ends at the first difference with the case that shows it.
 // Arguments: --seed S, --rounds R (a round is one case of each call), --case K (only that round, to see a difference again).
 
+mod adding;
 mod cases;
 mod edges;
 mod lent;
