@@ -48,7 +48,7 @@ extern "C" {
 }
 
 // The version of the header that these declarations follow.
-const VERSION: u32 = 40300;
+const VERSION: u32 = 40400;
 const NO_SEQUENCE: u32 = 11;
 const TABLE_FILE_MAX: usize = 76936;
 const COLUMNS: [[u16; 2]; 2] = [[1, 4], [0, 3]];

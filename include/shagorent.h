@@ -30,7 +30,7 @@ extern "C" {
  * minor version has more functions, or a rule that moved, as its changelog tells. `shagorent_version` answers the library's own, in the form of
  * SHAGORENT_VERSION: ask once that the two agree. */
 #define SHAGORENT_VERSION_MAJOR 4u
-#define SHAGORENT_VERSION_MINOR 3u
+#define SHAGORENT_VERSION_MINOR 4u
 #define SHAGORENT_VERSION_PATCH 0u
 #define SHAGORENT_VERSION (SHAGORENT_VERSION_MAJOR * 10000u + SHAGORENT_VERSION_MINOR * 100u + SHAGORENT_VERSION_PATCH)
 

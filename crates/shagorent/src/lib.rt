@@ -56,7 +56,7 @@ use table::clear_table;
 pub extern "C" fn shagorent_version() -> u32
     ensures { λ r. ⌜ r ≡ version ⌝ }
 {
-    40300
+    40400
 }
 
 // ---- tables, plans, pictures, motors, jobs and table files
