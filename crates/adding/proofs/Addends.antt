@@ -44,6 +44,11 @@ addend-touched T i column l = go (allowed T (thicknessAt T i)) l
     go true u = refl
     go false u = absurd (omega arith)
 
+-- a test that is asked besides
+pub and-false : (a b : Bool) → b ≡ false → a && b ≡ false
+and-false true b e = e
+and-false false b e = refl
+
 module _ (T : ℕ) (limits table : List ℕ) (column : Column) where
   -- the cell at a place of a row
   pub heaped-row : (w r j : ℕ) → j < w → heapedAt T limits table column w (r * w + j) ≡ heaped T limits table column (r * w) j

@@ -2,7 +2,7 @@
 -- inside its layer, so in a row that faces a boundary the column adds to the allowed cells from that boundary on, and to no cell of a row
 -- that no boundary is near; there the count of the voxels, carried from thickness to thickness, gives what is added. Assumes nothing.
 use mathlib.Core.Path.{_≡_, refl, sym, ap, _∙_, subst}
-use mathlib.Core.Bool.{Bool, true, false, _&&_}
+use mathlib.Core.Bool.{Bool, true, false}
 use mathlib.Core.List.{List}
 use mathlib.Core.Logic.{_⊎_, inl, inr}
 use Prim.Native.Nat.{ℕ, suc, _+_, _-_, _*_, _/_, _%_, _≤_, _<_, min, max}
@@ -32,7 +32,7 @@ use Rattle.near.proofs.Carried.{rising-to}
 use Rattle.near.proofs.Facing.{under-none, under-later, under-more, near-from}
 use Rattle.adding.specs.Adding.{addend}
 use Rattle.adding.specs.Heaped.{heaped, heapedAt}
-use Rattle.adding.proofs.Addends.{addend-allowed, addend-barred, heaped-touched, heaped-untouched}
+use Rattle.adding.proofs.Addends.{addend-allowed, addend-barred, and-false, heaped-touched, heaped-untouched}
 
 -- ---- a boundary strictly inside a layer, by datum heights
 
@@ -54,10 +54,6 @@ module _ (bs : List ℕ) (h t : ℕ) where
       lt-down (getD bs (w .index) 0 + 32) (h + t)
       (subst (λ (z : ℤ). z <ℤ heightOf (h + t)) (pos-height (getD bs (w .index) 0)) (subst (λ (z : ℤ). pos (getD bs (w .index) 0) <ℤ z) (sum-height h t) (w .before)))
 
-both : (a b : Bool) → b ≡ false → a && b ≡ false
-both true b e = e
-both false b e = refl
-
 pub rows-le : (a b m : ℕ) → a ≤ b → a * m ≤ b * m
 rows-le a b m l = let r : m ≤ m = omega arith in mul-le-mul l r
 
@@ -69,11 +65,8 @@ module _ {s : Settings} (k : Sound s) {bs : List ℕ} (c : IsColumn (s .height) 
   adds-none : (row j : ℕ) → j < s .tmax → (Between bs (heightOf (atRow (s .tmax) row)) (j + 1) → ⊥) → adds row j ≡ 0
   adds-none row j u never = go (allowed (s .members) (j + 1)) refl
     where
-      none : Between bs (heightOf (atRow (s .tmax) row)) (j + 1) → ⊥
-      none = never
-
       dec : Dec (0 < share bs (heightOf (atRow (s .tmax) row)) (j + 1)) → share bs (heightOf (atRow (s .tmax) row)) (j + 1) ≡ 0
-      dec (yes x) = absurd (none (share-between (s .height) (columnOf bs) c (heightOf (atRow (s .tmax) row)) (j + 1) .0 x))
+      dec (yes x) = absurd (never (share-between (s .height) (columnOf bs) c (heightOf (atRow (s .tmax) row)) (j + 1) .0 x))
       dec (no x) = omega arith
 
       go : (b : Bool) → allowed (s .members) (j + 1) ≡ b → adds row j ≡ 0
@@ -113,7 +106,7 @@ module _ {s : Settings} (k : Sound s) {bs : List ℕ} (c : IsColumn (s .height) 
 
       pub heaped-no : above caps table (row * s .tmax) j ≡ false → heaped (s .members) caps table (columnOf bs) (row * s .tmax) j ≡ false
       unfolding heaped
-      heaped-no e = both (ltb 0 (adds row j)) (above caps table (row * s .tmax) j) e
+      heaped-no e = and-false (ltb 0 (adds row j)) (above caps table (row * s .tmax) j) e
 
       -- a cell above its cap is one of an allowed thickness
       pub heaped-yes : first ≤ j → Allowing (s .members) (s .tmax) caps → getD caps j 0 < getD table (row * s .tmax + j) 0 → getD table (row * s .tmax + j) 0 < 4294967296
@@ -180,11 +173,10 @@ module _ {s : Settings} (k : Sound s) {bs : List ℕ} (c : IsColumn (s .height) 
   -- cell by cell
   calm-cells : (a b : ℕ) → ((r : ℕ) → a ≤ r → r < b → Calm r) → (x : ℕ) → a * s .tmax ≤ x → x < b * s .tmax → addend (s .members) (columnOf bs) x ≡ 0
   calm-cells a b calm x l v =
-      let p : 1 ≤ s .tmax = omega (arith, k .thin, k .order) in
-      let lo = le-div-iff-mul-le {x = a} {y = x} p .1 l in
-      let hi = div-lt-iff-lt-mul {x = x} {y = b} p .1 v in
+      let lo = le-div-iff-mul-le {x = a} {y = x} some .1 l in
+      let hi = div-lt-iff-lt-mul {x = x} {y = b} some .1 v in
       subst (λ (i : ℕ). addend (s .members) (columnOf bs) i ≡ 0) (div-add-mod' x (s .tmax))
-      (adds-calm (x / s .tmax) (x % s .tmax) (calm (x / s .tmax) lo hi) (mod-lt x p))
+      (adds-calm (x / s .tmax) (x % s .tmax) (calm (x / s .tmax) lo hi) (mod-lt x some))
 
   -- a column without boundaries adds nothing
   pub none-added : length bs ≡ 0 → (i : ℕ) → i < s .cells → addend (s .members) (columnOf bs) i ≡ 0

@@ -24,7 +24,7 @@ use Rattle.table.proofs.Limits.{limit-le}
 use Rattle.table.proofs.Passed.{thickness-small}
 use Rattle.adding.specs.Adding.{addend, overfull, firstOverfull, Addable}
 use Rattle.adding.specs.Ordered.{orderRest, orderChecks}
-use Rattle.adding.proofs.Addends.{addend-le}
+use Rattle.adding.proofs.Addends.{addend-le, and-false}
 
 module _ (held : Held) (column : Column) where
   module _ {s : Settings} (k : SettingsFor (held .head) s) where
@@ -73,8 +73,4 @@ module _ (held : Held) (column : Column) where
   unfolding firstOverfull overfull outOfBounds
   overfull-fine w =
       lowest-none (overfull (held .head) (held .buffer) column) (cellsOf (held .head))
-      (λ i l. both (ltb 0 (addend (held .head .members) column i)) _ (le-ltb (limitOf (held .head) (thicknessAt (held .head .members) i)) (getD (held .buffer) i 0) (w i l)))
-    where
-      both : (a b : Bool) → b ≡ false → a && b ≡ false
-      both true b e = e
-      both false b e = refl
+      (λ i l. and-false (ltb 0 (addend (held .head .members) column i)) _ (le-ltb (limitOf (held .head) (thicknessAt (held .head .members) i)) (getD (held .buffer) i 0) (w i l)))

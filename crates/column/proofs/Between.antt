@@ -20,7 +20,7 @@ use Rattle.plate.proofs.Datum.{leb-same}
 use Rattle.column.proofs.Shares.{bit, odd}
 
 -- the boundaries rise, so the first is the least
-abbrev Rising : List ℕ → Type 0
+abbrev pub Rising : List ℕ → Type 0
 Rising bs = (k : ℕ) → suc k < length bs → getD bs k 0 < getD bs (suc k) 0
 
 first-least : (b : ℕ) (bs : List ℕ) → Rising (b ∷ bs) → (j : ℕ) → j < length bs → b < getD bs j 0

@@ -7,6 +7,8 @@ use Prim.Native.Nat.{ℕ, _+_, _≤_}
 use native.Mathlib.Omega.{arith}
 use borrow.Author.Tests.{lt-ltb, le-ltb}
 use lib.Dec.{ltb}
+use Rattle.lists.specs.Rewrite.{Span}
+use Rattle.lists.proofs.Spans.{front-inside}
 use Rattle.paper.specs.Limits.{mostThickness}
 use Rattle.paper.specs.Layer.{allowed}
 use Rattle.plate.specs.Head.{capped, isOver, limitOf, SettingsFor}
@@ -34,8 +36,8 @@ module _ (head : Head) (t : ℕ) where
 
 -- those of a table's own head, over the rows of its settings
 module _ {head : Head} {s : Settings} (k : SettingsFor head s) (few : isOver head ≡ false) where
-  pub caps-for : {caps : List ℕ} (n : ℕ) → s .tmax ≤ n → Caps (capped head) n caps → Caps head (s .tmax) caps
-  caps-for {caps} n l w = subst (λ (h : Head). Caps h (s .tmax) caps) (capped-same head few) (record { are = λ j u. w .are j (omega arith) })
+  pub caps-for : {old caps : List ℕ} (n : ℕ) → s .tmax ≤ n → Span 0 0 n (λ j x. capOf (capped head) (j + 1)) old caps → Caps head (s .tmax) caps
+  caps-for {caps = caps} n l w = subst (λ (h : Head). Caps h (s .tmax) caps) (capped-same head few) (record { are = λ j u. front-inside w j (omega arith) })
 
   pub allowing-for : {caps : List ℕ} → Caps head (s .tmax) caps → Allowing (s .members) (s .tmax) caps
   allowing-for {caps} w =

@@ -2,18 +2,17 @@
 -- is above a voxel is the next one, and no two are the same. Assumes nothing.
 use mathlib.Core.Path.{_≡_, refl}
 use mathlib.Core.List.{List, [], _∷_}
-use Prim.Native.Nat.{ℕ, zero, suc, _+_, _≤_, _<_}
+use Prim.Native.Nat.{ℕ, zero, suc, _+_, _%_, _≤_, _<_}
 use native.Mathlib.Omega.{arith}
 use native.Mathlib.Decide.{decLt, ℕ-discrete}
 use borrow.Author.Tests.{lt-ltb, le-ltb, eq-eqb, ne-eqb}
 use lib.ListN.{length, getD}
+use Rattle.lists.specs.Rewrite.{Span}
+use Rattle.lists.proofs.Spans.{front-inside}
 use Rattle.column.specs.Inside.{passed}
+use Rattle.column.proofs.Between.{Rising}
 use Rattle.column.proofs.Inside.{reached-yes, reached-no}
 use Rattle.near.specs.Carried.{stepped, carried, States}
-
--- each boundary is above the one before
-abbrev pub Rising : List ℕ → Type 0
-Rising bs = (k : ℕ) → suc k < length bs → getD bs k 0 < getD bs (suc k) 0
 
 pub rising-to : (bs : List ℕ) → Rising bs → (i j : ℕ) → i ≤ j → j < length bs → getD bs i 0 ≤ getD bs j 0
 rising-to bs r i zero l u = let e : i ≡ 0 = omega arith in rw e (omega arith)
@@ -93,6 +92,6 @@ pub carried-more : (bs : List ℕ) (k i : ℕ) → stepped bs (carried bs k i) (
 unfolding carried
 carried-more bs k i = refl
 
--- fewer states
-pub states-less : {bs : List ℕ} {k n : ℕ} {states : List ℕ} (m : ℕ) → m ≤ n → States bs k n states → States bs k m states
-states-less m l w = record { are = λ i u. w .are i (omega arith) }
+-- what was filled in
+pub states-filled : {bs : List ℕ} {k n : ℕ} {old states : List ℕ} (m : ℕ) → m ≤ n → Span 0 0 n (λ i x. carried bs k (suc i) % 2) old states → States bs k m states
+states-filled m l w = record { are = λ i u. front-inside w i (omega arith) }

@@ -7,10 +7,11 @@ use native.Mathlib.Omega.{arith}
 use lib.ListN.{length, getD}
 use Rattle.plate.specs.Datum.{atRow}
 use Rattle.column.specs.Inside.{passed, inside}
+use Rattle.column.proofs.Between.{Rising}
 use Rattle.column.proofs.Inside.{inside-none, inside-more}
 use Rattle.near.specs.Carried.{States}
 use Rattle.near.specs.Facing.{Under, Facing, Near}
-use Rattle.near.proofs.Carried.{Rising, rising-to, passed-is, carried-is}
+use Rattle.near.proofs.Carried.{rising-to, passed-is, carried-is}
 
 -- ---- the boundaries at or below a row's start
 

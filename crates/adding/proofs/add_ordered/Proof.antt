@@ -31,7 +31,7 @@ use Rattle.plate.proofs.Heads.{cells-for, members-for, full-over}
 use Rattle.table.specs.Cells.{outOfBounds}
 use Rattle.table.specs.Limits.{aboveAt}
 use Rattle.table.proofs.Cells.{greatest-for}
-use Rattle.near.specs.Caps.{Caps}
+use Rattle.near.specs.Caps.{capOf, Caps}
 use Rattle.near.proofs.Caps.{cap-allowed, caps-for, allowing-for}
 use Rattle.adding.specs.Adding.{addend, overfull, firstOverfull, overfullCell, added, Addable}
 use Rattle.adding.specs.Heaped.{heapedAt}
@@ -99,7 +99,7 @@ module _ (s : tie.Start) where
   few : isFull (s .args .head) ≡ false
   few = s .pre .1 .0 .0
 
-  kept : {caps : List ℕ} → Caps (capped (s .args .head)) (min (min (s .args .s .tmax) mostThickness) 32) caps → Caps (s .args .head) (s .args .s .tmax) caps
+  kept : {old caps : List ℕ} → Span 0 0 (min (min (s .args .s .tmax) mostThickness) 32) (λ j x. capOf (capped (s .args .head)) (j + 1)) old caps → Caps (s .args .head) (s .args .s .tmax) caps
   kept w = caps-for (s .pre .0) (full-over _ few) _ (omega (arith, s .pre .0 .sound .thick)) w
 
   finish : (now : List ℕ) (head : Head) → none ≡ first (overfullCell held column ∷ []) → head ≡ cond (isFull (s .args .head)) (s .args .head) (more (s .args .head))

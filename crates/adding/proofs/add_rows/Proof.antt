@@ -8,7 +8,7 @@ use Rattle.lists.specs.Rewrite.{Span}
 use Rattle.lists.proofs.Spans.{span-none, span-more, span-end}
 use Rattle.paper.specs.Layer.{columnOf}
 use Rattle.near.specs.Facing.{Near, Reached}
-use Rattle.near.proofs.Carried.{states-less}
+use Rattle.near.proofs.Carried.{states-filled}
 use Rattle.adding.specs.Adding.{addend}
 use Rattle.adding.proofs.Near.{reached-none, reached-in, reached-near, reached-next, calm-skip, calm-end, span-calm, rows-le}
 use Rattle.adding.proofs.add_rows.Statement.{statement}
@@ -65,7 +65,7 @@ loop-again c =
     let s = S (l d) in
     let u = rows-le (from d) (to d) (s .args .s .tmax) (reach d .order) in (
       reached-next (s .pre .0) (s .pre .1 .1 .0 .0) (l d .loop .inv .0) (there d) (boundary d) (is d),
-      c .before .before .before .before .before .before .before .fill-states .ensures .1 ∙ l d .loop .inv .1,
+      c .before .before .before .before .before .before .before .fill-states .ensures .long ∙ l d .loop .inv .1,
       span-end _ (span-more _ _ (omega arith) (skipped d) (c .before .before .add-near .ensures)) (omega (arith, u)) (omega (arith, u)),
     )
 
@@ -102,7 +102,7 @@ add-rows-spec =
         (
           (s .pre .1 .1 .0 .0, reach d),
           (
-            (states-less (s .args .s .tmax - 1) (omega (arith, s .pre .0 .thick, l d .loop .inv .1)) (c .before .before .before .before .fill-states .ensures .0), s .pre .1 .1 .0 .1),
+            (states-filled (s .args .s .tmax - 1) (omega (arith, s .pre .0 .thick, l d .loop .inv .1)) (c .before .before .before .before .fill-states .ensures), s .pre .1 .1 .0 .1),
             λ i u v. omega (arith, skipped d .above i (omega arith), s .pre .1 .1 .1 i v),
           ),
         ),

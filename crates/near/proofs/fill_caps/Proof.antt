@@ -6,12 +6,12 @@ use native.Mathlib.Omega.{arith}
 use borrow.Author.Needs.{needs}
 use lib.ListN.{length}
 use Rattle.lists.specs.Rewrite.{Span}
-use Rattle.lists.proofs.Spans.{span-none, span-set, front-inside}
+use Rattle.lists.proofs.Spans.{span-none, span-set, span-end}
 use Rattle.paper.specs.Limits.{mostThickness}
 use Rattle.plate.specs.Head.{isOver}
 use Rattle.plate.specs.declared.head.Head.{Head}
 use Rattle.plate.proofs.Heads.{capped-not-over}
-use Rattle.near.specs.Caps.{capOf, Caps}
+use Rattle.near.specs.Caps.{capOf}
 use Rattle.near.proofs.fill_caps.Statement.{statement}
 use Rattle.near.proofs.fill_caps.Tie as tie
 
@@ -34,9 +34,10 @@ loop-again c =
 returns : tie.Need-returns Inv-loop μ-loop
 returns c =
     let l = c .before .loop in
-    let a = c .before .before .before .before .before .before .args in
-    subst (λ (head : Head). Caps head (min (min (a .width) mostThickness) (length (a .caps .now))) (l .caps)) (c .before .before .before .before .capped .ensures)
-    (record { are = λ j u. front-inside (l .inv .2) j (omega (arith, c .before .before .sooner .ensures, c .before .before .before .row-end .ensures)) })
+    let e = c .before .before .sooner .ensures in
+    let r = c .before .before .before .row-end .ensures in
+    subst (λ (head : Head). Span 0 0 (min (min (c .before .before .before .before .before .before .args .width) mostThickness) (length (c .before .before .before .before .before .before .args .caps .now))) (λ i x. capOf head (i + 1)) (c .before .before .before .before .before .before .args .caps .now) (l .caps)) (c .before .before .before .before .capped .ensures)
+    (span-end _ (l .inv .2) (omega (arith, e, r)) (omega (arith, e, r)))
 
 pub fill-caps-spec : {M : Type 1} → statement M
 fill-caps-spec =

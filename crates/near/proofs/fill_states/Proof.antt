@@ -6,7 +6,7 @@ use native.Mathlib.Omega.{arith}
 use borrow.Author.Needs.{needs}
 use lib.ListN.{length}
 use Rattle.lists.specs.Rewrite.{Span}
-use Rattle.lists.proofs.Spans.{span-none, span-set, front-inside}
+use Rattle.lists.proofs.Spans.{span-none, span-set, span-end}
 use Rattle.near.specs.Carried.{stepped, carried}
 use Rattle.near.proofs.Carried.{carried-none, carried-more}
 use Rattle.near.proofs.fill_states.Statement.{statement}
@@ -33,9 +33,7 @@ loop-again c =
     (omega arith, omega (arith, l .inv .1, l .inv .3 .long, s .long), p ∙ ap (carried (a .column .now) (a .k)) (omega arith), s)
 
 returns : tie.Need-returns Inv-loop μ-loop
-returns c =
-    let l = c .before .loop in
-    (record { are = λ i u. front-inside (l .inv .3) i (omega (arith, c .before .before .sooner .ensures)) }, l .inv .3 .long)
+returns c = let l = c .before .loop in span-end _ (l .inv .3) (omega (arith, c .before .before .sooner .ensures)) (omega (arith, c .before .before .sooner .ensures))
 
 pub fill-states-spec : {M : Type 1} → statement M
 fill-states-spec =
