@@ -2,7 +2,7 @@
 -- is above a voxel is the next one, and no two are the same. Assumes nothing.
 use mathlib.Core.Path.{_≡_, refl}
 use mathlib.Core.List.{List, [], _∷_}
-use Prim.Native.Nat.{ℕ, zero, suc, _+_, _%_, _≤_, _<_}
+use Prim.Native.Nat.{ℕ, zero, suc, _+_, _≤_, _<_}
 use native.Mathlib.Omega.{arith}
 use native.Mathlib.Decide.{decLt, ℕ-discrete}
 use borrow.Author.Tests.{lt-ltb, le-ltb, eq-eqb, ne-eqb}
@@ -12,7 +12,7 @@ use Rattle.lists.proofs.Spans.{front-inside}
 use Rattle.column.specs.Inside.{passed}
 use Rattle.column.proofs.Between.{Rising}
 use Rattle.column.proofs.Inside.{reached-yes, reached-no}
-use Rattle.near.specs.Carried.{stepped, carried, States}
+use Rattle.near.specs.Carried.{stepped, carried, stateAt, States}
 
 pub rising-to : (bs : List ℕ) → Rising bs → (i j : ℕ) → i ≤ j → j < length bs → getD bs i 0 ≤ getD bs j 0
 rising-to bs r i zero l u = let e : i ≡ 0 = omega arith in rw e (omega arith)
@@ -93,5 +93,5 @@ unfolding carried
 carried-more bs k i = refl
 
 -- what was filled in
-pub states-filled : {bs : List ℕ} {k n : ℕ} {old states : List ℕ} (m : ℕ) → m ≤ n → Span 0 0 n (λ i x. carried bs k (suc i) % 2) old states → States bs k m states
+pub states-filled : {bs : List ℕ} {k n : ℕ} {old states : List ℕ} (m : ℕ) → m ≤ n → Span 0 0 n (λ i x. stateAt bs k i) old states → States bs k m states
 states-filled m l w = record { are = λ i u. front-inside w i (omega arith) }

@@ -9,7 +9,7 @@ use Rattle.plate.specs.Datum.{atRow}
 use Rattle.column.specs.Inside.{passed, inside}
 use Rattle.column.proofs.Between.{Rising}
 use Rattle.column.proofs.Inside.{inside-none, inside-more}
-use Rattle.near.specs.Carried.{States}
+use Rattle.near.specs.Carried.{stateAt, States}
 use Rattle.near.specs.Facing.{Under, Facing, Near}
 use Rattle.near.proofs.Carried.{rising-to, passed-is, carried-is}
 
@@ -70,6 +70,7 @@ module _ (bs : List ℕ) (r : Rising bs) {m row k first : ℕ} (thick : m ≤ 32
   -- from it on: one voxel more
   pub inside-carried : {states : List ℕ} → States bs k (m - 1) states → (j : ℕ) → first ≤ j → j < m
       → inside bs h (j + 1) ≡ inside bs h j + getD states (j - first) 0
+  unfolding stateAt
   inside-carried {states} w j l u =
       let e : h + j ≡ getD bs k 0 + 32 + (j - first) = omega (arith, f .place) in
       inside-more bs h j

@@ -16,6 +16,10 @@ unfoldable pub carried : List ℕ → ℕ → ℕ → ℕ
 carried bs k zero = k
 carried bs k (suc i) = stepped bs (carried bs k i) (getD bs k 0 + i)
 
--- the voxels from boundary k up, 1 inside and 0 outside
+-- the voxel i above boundary k, 1 inside and 0 outside: after it was looked at, an odd number passed or an even one
+unfoldable pub stateAt : List ℕ → ℕ → ℕ → ℕ
+stateAt bs k i = carried bs k (suc i) % 2
+
+-- the voxels from boundary k up
 pub record States (bs : List ℕ) (k width : ℕ) (states : List ℕ) : Type 0 where
-  pub are : (i : ℕ) → i < width → getD states i 0 ≡ carried bs k (suc i) % 2
+  pub are : (i : ℕ) → i < width → getD states i 0 ≡ stateAt bs k i

@@ -2,13 +2,13 @@
 // is looked at once.
 ghost use mathlib.Core.Path.{_≡_};
 ghost use mathlib.Core.Bool.{false};
-ghost use Prim.Native.Nat.{suc, _+_, _*_, _%_, _<_, _≤_, min, max};
+ghost use Prim.Native.Nat.{_+_, _*_, _%_, _<_, _≤_, min, max};
 ghost use lib.ListN.{length, getD};
 ghost use Rattle.lists.specs.Rewrite.{Span};
 ghost use Rattle.paper.specs.Limits.{mostThickness};
 ghost use Rattle.plate.specs.Head.{capped, isOver};
 ghost use Rattle.near.specs.Caps.{capOf};
-ghost use Rattle.near.specs.Carried.{stepped, carried};
+ghost use Rattle.near.specs.Carried.{stepped, stateAt};
 use plate::head::Head;
 use plate::settings::is_allowed;
 use table::row_end;
@@ -86,7 +86,7 @@ fn passed_at(column: &[u16], passed: usize, voxel: usize) -> usize
 // The voxels from boundary k up into a buffer, 1 inside and 0 outside, where k boundaries are passed below it: so many of them, or as many as
 // it holds.
 pub fn fill_states(states: &mut [u32], column: &[u16], k: usize, width: usize)
-    ensures { λ _. ⌜ Span 0 0 (min width (length (now (states .entry)))) (λ i x. carried (now (column .entry)) k (suc i) % 2) (now (states .entry)) (now (states .exit)) ⌝ }
+    ensures { λ _. ⌜ Span 0 0 (min width (length (now (states .entry)))) (λ i x. stateAt (now (column .entry)) k i) (now (states .entry)) (now (states .exit)) ⌝ }
 {
     let from = boundary_at(column, k);
     let end = sooner(width, states.len());

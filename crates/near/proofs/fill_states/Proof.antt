@@ -7,19 +7,20 @@ use borrow.Author.Needs.{needs}
 use lib.ListN.{length}
 use Rattle.lists.specs.Rewrite.{Span}
 use Rattle.lists.proofs.Spans.{span-none, span-set, span-end}
-use Rattle.near.specs.Carried.{stepped, carried}
+use Rattle.near.specs.Carried.{stepped, carried, stateAt}
 use Rattle.near.proofs.Carried.{carried-none, carried-more}
 use Rattle.near.proofs.fill_states.Statement.{statement}
 use Rattle.near.proofs.fill_states.Tie as tie
 
 abbrev Inv-loop : tie.InvT-loop
 Inv-loop states₀ column k width from end passed₀ i₀ states passed i =
-    (i ≤ end) × (end ≤ length states) × (passed ≡ carried column k i) × Span 0 0 i (λ j x. carried column k (suc j) % 2) states₀ states
+    (i ≤ end) × (end ≤ length states) × (passed ≡ carried column k i) × Span 0 0 i (λ j x. stateAt column k j) states₀ states
 
 abbrev μ-loop : tie.MeasureT-loop
 μ-loop states₀ column k width from end passed₀ i₀ states passed i = end - i
 
 loop-again : tie.Need-loop-again Inv-loop μ-loop
+unfolding stateAt
 loop-again c =
     let l = c .before .before .loop in
     let a = c .before .before .before .before .before .before .before .args in
