@@ -174,16 +174,16 @@ fn add_rows(table: &mut [u32], column: &[u16], caps: &[u32; 32], s: Settings)
     ensures { λ _. ⌜ Span 0 0 (s .cells) (λ i x. x + addend (s .members) (columnOf (now (column .entry))) i) (now (table .entry)) (now (table .exit)) ⌝ }
 {
     let mut states = [0u32; 32];
-    let mut k: usize = 0;
+    let mut passed: usize = 0;
     let mut row: usize = 0;
-    while k < column.len() {
-        let boundary = boundary_at(column, k);
+    while passed < column.len() {
+        let boundary = boundary_at(column, passed);
         let to = boundary + s.tmax - 1;
-        fill_states(&mut states, column, k, s.tmax - 1);
+        fill_states(&mut states, column, passed, s.tmax - 1);
         let from = later(row, boundary);
-        add_near(table, column, &states, caps, s, from, to, k);
+        add_near(table, column, &states, caps, s, from, to, passed);
         row = to;
-        k += 1;
+        passed += 1;
     }
 }
 

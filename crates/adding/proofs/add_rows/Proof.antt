@@ -15,11 +15,11 @@ use Rattle.adding.proofs.add_rows.Statement.{statement}
 use Rattle.adding.proofs.add_rows.Tie as tie
 
 abbrev Inv-loop : tie.InvT-loop
-Inv-loop table₀ column caps s states₀ k₀ row₀ table states k row =
-    Reached column (s .tmax) (s .rows) k row × (length states ≡ 32) × Span 0 0 (row * s .tmax) (λ i x. x + addend (s .members) (columnOf column) i) table₀ table
+Inv-loop table₀ column caps s states₀ passed₀ row₀ table states passed row =
+    Reached column (s .tmax) (s .rows) passed row × (length states ≡ 32) × Span 0 0 (row * s .tmax) (λ i x. x + addend (s .members) (columnOf column) i) table₀ table
 
 abbrev μ-loop : tie.MeasureT-loop
-μ-loop table₀ column caps s states₀ k₀ row₀ table states k row = length column - k
+μ-loop table₀ column caps s states₀ passed₀ row₀ table states passed row = length column - passed
 
 abbrev S : tie.At-loop Inv-loop μ-loop → tie.Start Inv-loop μ-loop
 S l = l .before .before .before
@@ -41,16 +41,16 @@ module _ (d : tie.After-later Inv-loop μ-loop) where
   abbrev to : ℕ
   to = boundary + at .args .s .tmax - 1
 
-  is : boundary ≡ getD (at .args .column .now) (l .loop .k) 0
+  is : boundary ≡ getD (at .args .column .now) (l .loop .passed) 0
   is = d .before .before .before .before .before .before .boundary-at .ensures .0
 
-  there : l .loop .k < length (at .args .column .now)
+  there : l .loop .passed < length (at .args .column .now)
   there = d .before .before .before .before .before .before .before .loop-test .taken
 
   in-rows : to ≤ at .args .s .rows
   in-rows = reached-in (at .pre .0) (at .pre .1 .1 .0 .0) (l .loop .inv .0) there boundary is
 
-  reach : Near (at .args .column .now) (at .args .s .tmax) from to (l .loop .k)
+  reach : Near (at .args .column .now) (at .args .s .tmax) from to (l .loop .passed)
   reach = reached-near (at .pre .0) (at .pre .1 .1 .0 .0) (l .loop .inv .0) there boundary is from (d .later .ensures)
 
   -- the rows passed over are rewritten as they stand
