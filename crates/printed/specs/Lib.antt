@@ -1,0 +1,5 @@
+pub mod Possible
+pub mod Tests
+pub mod Records
+pub mod Paper
+pub mod Bytes
