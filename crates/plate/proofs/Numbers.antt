@@ -27,6 +27,7 @@ reasons =
     ∷ reason.MotorBoundary
     ∷ reason.Malformed
     ∷ reason.TooLarge
+    ∷ reason.NoCure
     ∷ []
 
 -- what stands there at a number, counted from 1
@@ -51,6 +52,7 @@ reason-back reason.Step = refl
 reason-back reason.MotorBoundary = refl
 reason-back reason.Malformed = refl
 reason-back reason.TooLarge = refl
+reason-back reason.NoCure = refl
 
 pub number-only : (a b : Reason) → numberOf a ≡ numberOf b → a ≡ b
 number-only a b e = sym (reason-back a) ∙ ap reasonOf e ∙ reason-back b

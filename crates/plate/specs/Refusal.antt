@@ -28,6 +28,7 @@ numberOf reason.Step = 14
 numberOf reason.MotorBoundary = 15
 numberOf reason.Malformed = 16
 numberOf reason.TooLarge = 17
+numberOf reason.NoCure = 18
 
 -- what a call tells: a value, or a refusal's number and place
 pub data Told (X : Type 0) : Type 0 where

@@ -20,6 +20,7 @@ pub enum Reason {
     MotorBoundary,
     Malformed,
     TooLarge,
+    NoCure,
 }
 
 impl Reason {
@@ -45,6 +46,7 @@ impl Reason {
             Reason::MotorBoundary => 15,
             Reason::Malformed => 16,
             Reason::TooLarge => 17,
+            Reason::NoCure => 18,
         }
     }
 }
