@@ -14,9 +14,13 @@ use Rattle.motor.specs.Exact.{over}
 use Rattle.motor.specs.declared.Lifted.{Lifted}
 use Rattle.motor.specs.declared.Lifted.the-variants.{Done, Refused}
 
--- 14: step outside 1 to 8,192; 15: boundary outside -31 to 543
+-- 14: step outside 1 to 8,192
+abbrev pub stepCheck : ℕ → Check Numbered
+stepCheck s = check 14 (outside 1 8192 s) 0
+
+-- 15: boundary outside -31 to 543
 abbrev pub heightChecks : ℕ → ℤ → List (Check Numbered)
-heightChecks s z = check 14 (outside 1 8192 s) 0 ∷ check 15 (ltZ z (negsuc 30) || ltZ (pos 543) z) 0 ∷ []
+heightChecks s z = stepCheck s ∷ check 15 (ltZ z (negsuc 30) || ltZ (pos 543) z) 0 ∷ []
 
 abbrev pub heightAnswer : ℕ → ℤ → Told Float
 heightAnswer s z = decided (heightChecks s z) (over (z *ℤ pos s) 8)

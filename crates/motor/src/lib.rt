@@ -1,8 +1,13 @@
 // Motor heights: the boundary z of a plan in micrometres, for a motor whose step is given in eighths of a micrometre.
 ghost use mathlib.Core.Path.{_≡_};
-ghost use Rattle.motor.specs.Height.{heightAnswer, toldLifted, Lifts};
+ghost use mathlib.Core.List.{[], _∷_};
+ghost use Rattle.lists.specs.Checks.{first};
+ghost use Rattle.plate.specs.Checked.{saidBy};
+ghost use Rattle.motor.specs.Height.{stepCheck, heightAnswer, toldLifted, Lifts};
+use plate::refusal::Checked;
 use plate::refusal::Reason;
 use plate::refusal::Refusal;
+use plate::refusal::refusal_at;
 
 // A motor's limits: its step, and the boundaries that it can be sent to.
 pub struct Motor;
@@ -22,21 +27,26 @@ pub enum Lifted {
     Refused(Refusal),
 }
 
+// Refusal 14.
+pub fn check_step(step: u32) -> Checked
+    ensures { λ r. ⌜ saidBy r ≡ first (stepCheck step ∷ []) ⌝ }
+{
+    if step < Motor::LEAST_STEP {
+        return Checked::Refused(refusal_at(Reason::Step, 0));
+    }
+    if Motor::GREATEST_STEP < step {
+        return Checked::Refused(refusal_at(Reason::Step, 0));
+    }
+    Checked::Passed
+}
+
 // Refusals 14 and 15, or the height: the f32 whose eightfold is exactly z times the step.
 pub fn motor_height(step: u32, z: i32) -> Lifted
     ensures { λ r. ⌜ (toldLifted r ≡ heightAnswer step z) × Lifts r step z ⌝ }
 {
-    if step < Motor::LEAST_STEP {
-        return Lifted::Refused(Refusal {
-            reason: Reason::Step,
-            place: 0,
-        });
-    }
-    if Motor::GREATEST_STEP < step {
-        return Lifted::Refused(Refusal {
-            reason: Reason::Step,
-            place: 0,
-        });
+    let checked = check_step(step);
+    if let Checked::Refused(refusal) = checked {
+        return Lifted::Refused(refusal);
     }
     if z < Motor::LOWEST {
         return Lifted::Refused(Refusal {
