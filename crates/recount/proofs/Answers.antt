@@ -2,31 +2,34 @@
 -- the facts of the tests passed so far. Assumes nothing.
 use mathlib.Core.Path.{_≡_, refl, sym, ap, _∙_, subst}
 use mathlib.Core.Bool.{true, false}
-use mathlib.Core.List.{List, [], _∷_}
+use mathlib.Core.List.{List, [], _∷_, _++_}
+use mathlib.Core.Option.{Option}
 use Prim.Native.Nat.{ℕ, suc, _+_, _-_, _≤_, _<_}
 use native.Mathlib.Omega.{arith}
 use borrow.Author.Tests.{lt-ltb, le-ltb, le-leb, lt-leb}
 use lib.IntN.{ℤ}
 use lib.ListN.{length}
+use Rattle.lists.specs.Checks.{Check, first}
 use Rattle.lists.proofs.Search.{lowest-hit, lowest-none}
+use Rattle.paper.specs.Limits.{largestBound}
 use Rattle.paper.specs.Layer.{tmax}
 use Rattle.paper.specs.Table.{ofTable}
 use Rattle.paper.specs.Sequence.{_!_, count, error, errorUnder}
 use Rattle.plate.specs.Call.{Does}
 use Rattle.plate.specs.Datum.{datum}
 use Rattle.plate.specs.Head.{Held}
-use Rattle.plate.specs.Refusal.{Told, done, refused, refusal}
-use Rattle.plate.specs.Settings.{saidMade, Judges}
+use Rattle.plate.specs.Refusal.{numberOf, Told, done, refused, refusal, Numbered, toldBy}
+use Rattle.plate.specs.Settings.{settingsChecks, saidMade, Judges}
 use Rattle.plate.specs.declared.refusal.Refusal.{Refusal}
 use Rattle.plate.specs.declared.settings.Made.{Made}
 use Rattle.plate.specs.declared.settings.Made.the-variants.{Good, Bad}
 use Rattle.plate.specs.declared.settings.Settings.{Settings}
-use Rattle.plate.proofs.Calls.{refuses, stopped}
-use Rattle.plate.proofs.Decided.{decided-passed}
+use Rattle.plate.proofs.Calls.{refuses, judges-bad, judges-good, stopped, passed}
+use Rattle.plate.proofs.Decided.{decided-passed, refused-first, told-done}
 use Rattle.sequence.specs.Sequence.{starts, lowestEnd}
 use Rattle.table.specs.Table.{tableChecks}
 use Rattle.recount.specs.Layers.{sequenceAnswer}
-use Rattle.recount.specs.Recount.{layerOut, lastOut, faultAt, firstFault, sequenceChecks, recounting}
+use Rattle.recount.specs.Recount.{layerOut, lastOut, faultAt, firstFault, sequenceChecks, unboundedChecks, recounting}
 use Rattle.recount.proofs.Faults.{fault-first, fault-layer, fault-last, fault-none}
 
 -- n is one less than the boundaries
@@ -99,6 +102,29 @@ module _ (N T : ℕ) (table : List ℕ) (bound : ℕ) (zs : List ℤ) where
                     let a : j ≡ k - 1 = omega (arith, whole) in
                     let b : suc j ≡ k = i ∙ whole in
                     rw (b, a) (simp (lt-leb (lowestEnd N) (datum (zs ! (k - 1))) below, le-ltb (datum (zs ! k)) (lowestEnd N) (omega arith)))
+
+-- without a table: 1 and 2 were asked, and then 13 over no columns and the largest bound
+module _ (N T : ℕ) (zs : List ℤ) {made : Made} (j : Judges made (settingsChecks N T) N T) where
+  abbrev asked : List (Check Numbered)
+  asked = settingsChecks N T ++ unboundedChecks N T zs
+
+  pub unsettled : (r : Refusal) → made ≡ Bad r → Judges made asked N T
+  unsettled r e = judges-bad asked N T made r e (stopped j (unboundedChecks N T zs) r e)
+
+  module _ (s : Settings) (e : made ≡ Good s) where
+    said : (answer : Told ℕ) → answer ≡ sequenceAnswer (s .height) (s .members) [] largestBound zs → answer ≡ toldBy (first asked) (error (ofTable N T []) zs)
+    unfolding sequenceAnswer
+    said answer a =
+        subst (λ (s : Settings). answer ≡ sequenceAnswer (s .height) (s .members) [] largestBound zs) (j .good s e .0) a
+        ∙ ap (λ (o : Option Numbered). toldBy o (error (ofTable N T []) zs)) (passed j (unboundedChecks N T zs) s e)
+
+    pub unbounded-out : (r : Refusal) → refusal r ≡ sequenceAnswer (s .height) (s .members) [] largestBound zs → Judges (Bad r) asked N T
+    unbounded-out r a =
+        judges-bad asked N T (Bad r) r refl (sym (refused-first asked (error (ofTable N T []) zs) (numberOf (r .reason)) (r .place) (sym (said (refusal r) a))))
+
+    pub unbounded-in : (x : ℕ) → done x ≡ sequenceAnswer (s .height) (s .members) [] largestBound zs → Judges (Good s) asked N T
+    unbounded-in x a =
+        judges-good asked N T (Good s) s refl (j .good s e) (sym (told-done (first asked) (error (ofTable N T []) zs) x (sym (said (done x) a)) .0))
 
 -- 1, 2, 3, 7, 6
 module _ (held : Held) (bound : ℕ) (zs : List ℤ) {made : Made} (j : Judges made (tableChecks held) (held .head .height) (held .head .members)) where

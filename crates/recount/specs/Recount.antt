@@ -8,6 +8,7 @@ use lib.IntN.{ℤ}
 use lib.ListN.{length}
 use Rattle.lists.specs.Checks.{Check}
 use Rattle.lists.specs.Search.{lowest}
+use Rattle.paper.specs.Limits.{largestBound}
 use Rattle.paper.specs.Layer.{allowed, tmax}
 use Rattle.paper.specs.Table.{ofTable}
 use Rattle.paper.specs.Sequence.{_!_, count, error}
@@ -50,6 +51,10 @@ sequenceChecks N T table bound zs =
     check 13 (ltb (length zs) 2 || not (starts (tmax T) (datum (zs ! 0)))) 0
     ∷ check 13 (ltb (firstFault N T table bound zs) (count zs)) (firstFault N T table bound zs + 1)
     ∷ []
+
+-- the same where there is no bound: over no columns, whose layers have no error, with the largest one
+abbrev pub unboundedChecks : ℕ → ℕ → List ℤ → List (Check Numbered)
+unboundedChecks N T zs = sequenceChecks N T [] largestBound zs
 
 -- THE CALL: it answers the sequence's error, and writes nothing
 unfoldable pub recounting : Held → ℕ → List ℤ → Call ℕ (Unit {0})

@@ -1,5 +1,6 @@
 // Recounting a given sequence over a table.
 ghost use mathlib.Core.Path.{_≡_};
+ghost use mathlib.Core.List.{_++_};
 ghost use Prim.Native.Nat.{_+_, _<_};
 ghost use lib.ListN.{length};
 ghost use Rattle.paper.specs.Sequence.{_!_};
@@ -7,9 +8,9 @@ ghost use Rattle.plate.specs.Call.{Does};
 ghost use Rattle.plate.specs.Datum.{datum};
 ghost use Rattle.plate.specs.Head.{heldIn};
 ghost use Rattle.plate.specs.Refusal.{told};
-ghost use Rattle.plate.specs.Settings.{Sound};
+ghost use Rattle.plate.specs.Settings.{Sound, settingsChecks, Judges};
 ghost use Rattle.recount.specs.Layers.{Looked, Started, sequenceAnswer};
-ghost use Rattle.recount.specs.Recount.{recounting};
+ghost use Rattle.recount.specs.Recount.{unboundedChecks, recounting};
 use plate::head::Head;
 use plate::height::datum_of;
 use plate::refusal::Answer;
@@ -107,6 +108,22 @@ fn recount_sequence(table: &[u32], s: Settings, bound: u32, sequence: &[i32]) ->
         return Answer::Refused(refusal_at(Reason::NotAdmissible, 1));
     }
     recount_layers(table, s, bound, sequence)
+}
+
+// A sequence by itself, without a bound: 1, 2, 13. There is no table, and so no layer has an error.
+pub fn check_sequence(height: u32, members: u32, sequence: &[i32]) -> Made
+    ensures { λ r. ⌜ Judges r (settingsChecks height members ++ unboundedChecks height members (now (sequence .entry))) height members ⌝ }
+{
+    let made = Settings::new(height, members);
+    let Made::Good(s) = made else {
+        return made;
+    };
+    let none: [u32; 0] = [];
+    let counted = recount_sequence(&none, s, 4294967295, sequence);
+    if let Answer::Refused(refusal) = counted {
+        return Made::Bad(refusal);
+    }
+    made
 }
 
 // Document 01, 'Recount a sequence over a table': 1, 2, 3, 7, 6, 13.
