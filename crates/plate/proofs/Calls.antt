@@ -10,7 +10,7 @@ use native.Mathlib.Omega.{arith}
 use Rattle.lists.specs.Checks.{Check, first, Given}
 use Rattle.lists.proofs.Checks.{first-passed, first-stopped}
 use Rattle.plate.specs.Refusal.{Told, done, refused, refusal, Numbered, numbered, toldBy, after}
-use Rattle.plate.specs.Call.{Call, answerOf, leftBy, Does}
+use Rattle.plate.specs.Call.{Call, behind, answerOf, leftBy, Does}
 use Rattle.plate.specs.Settings.{settingsOf, Sound, saidMade, Judges}
 use Rattle.plate.specs.declared.refusal.Refusal.{Refusal}
 use Rattle.plate.specs.declared.settings.Settings.{Settings}
@@ -48,6 +48,12 @@ module _ {X B : Type 0} (call : Call X B) where
   passes e =
       let t : answerOf call ≡ done (call .value) = ap (λ (o : Option Numbered). toldBy o (call .value)) e in
       (t, ap (λ (t : Told X). after t (call .writes) (call .held)) t)
+
+  -- others were asked before, and passed
+  pub does-behind : (before : List (Check Numbered)) → first before ≡ none → {answer : Told X} {now : B} → Does call answer now → Does (behind before call) answer now
+  does-behind before e d =
+      let same : answerOf (behind before call) ≡ answerOf call = ap (λ (o : Option Numbered). toldBy o (call .value)) (first-passed before (call .checks) e) in
+      record { tells = d .tells ∙ sym same; leaves = d .leaves ∙ ap (λ (t : Told X). after t (call .writes) (call .held)) (sym same) }
 
   -- the checks were asked by a function of their own
   module _ {N T : ℕ} {made : Made} (j : Judges made (call .checks) N T) where

@@ -1,7 +1,7 @@
 -- What is told, and what the memory lent then holds: one record for every call, whatever it answers and whatever it writes into.
 -- Assumes nothing.
 use mathlib.Core.Path.{_≡_}
-use mathlib.Core.List.{List}
+use mathlib.Core.List.{List, _++_}
 use Rattle.lists.specs.Checks.{Check}
 use Rattle.plate.specs.Refusal.{Told, Numbered, decided, after}
 
@@ -11,6 +11,10 @@ pub record Call (X B : Type 0) : Type 0 where
   pub value : X
   pub writes : B
   pub held : B
+
+-- the same call with other refusals in front of its own
+abbrev pub behind : {X B : Type 0} → List (Check Numbered) → Call X B → Call X B
+behind before call = record { checks = before ++ call .checks; value = call .value; writes = call .writes; held = call .held }
 
 -- THE ANSWER: the first of the refusals that holds, or the value
 abbrev pub answerOf : {X B : Type 0} → Call X B → Told X

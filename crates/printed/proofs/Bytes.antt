@@ -18,7 +18,7 @@ append-cancel : (xs ys zs : List ℕ) → xs ++ ys ≡ xs ++ zs → ys ≡ zs
 append-cancel [] ys zs e = e
 append-cancel (x ∷ xs) ys zs e = append-cancel xs ys zs (cc)
 
-bytes-append : (code : Record → List ℕ) (rs us : List Record) → bytesOf code (rs ++ us) ≡ bytesOf code rs ++ bytesOf code us
+pub bytes-append : (code : Record → List ℕ) (rs us : List Record) → bytesOf code (rs ++ us) ≡ bytesOf code rs ++ bytesOf code us
 bytes-append code [] us = refl
 bytes-append code (r ∷ rs) us =
     ap (λ (l : List ℕ). code r ++ l) (bytes-append code rs us) ∙ sym (append-assoc (code r) (bytesOf code rs) (bytesOf code us))

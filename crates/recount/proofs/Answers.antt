@@ -33,7 +33,7 @@ use Rattle.recount.specs.Recount.{layerOut, lastOut, faultAt, firstFault
 use Rattle.recount.proofs.Faults.{fault-first, fault-layer, fault-last, fault-none}
 
 -- n is one less than the boundaries
-count-is : (zs : List ℤ) → count zs ≡ length zs - 1
+pub count-is : (zs : List ℤ) → count zs ≡ length zs - 1
 count-is [] = refl
 count-is (z ∷ zs) = omega arith
 

@@ -1,0 +1,9 @@
+pub mod Floats
+pub mod Lent
+pub mod Sequences
+pub mod Records
+pub mod Writes
+pub mod Lifts
+pub mod Judged
+pub mod Walk
+pub mod Readings

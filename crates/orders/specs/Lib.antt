@@ -1,0 +1,9 @@
+pub mod Layer
+pub mod Kinds
+pub mod Written
+pub mod Order
+pub mod File
+pub mod Lent
+pub mod Writing
+pub mod Reading
+pub mod Parts
