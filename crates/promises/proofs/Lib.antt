@@ -23,3 +23,4 @@ pub mod Sent
 pub mod Dealt
 pub mod Trips
 pub mod Mission
+pub mod PrintedFloats

@@ -15,3 +15,4 @@ pub mod Groups
 pub mod Ways
 pub mod Trips
 pub mod Mission
+pub mod Printing
