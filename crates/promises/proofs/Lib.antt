@@ -24,3 +24,4 @@ pub mod Dealt
 pub mod Trips
 pub mod Mission
 pub mod PrintedFloats
+pub mod OrderRecords
