@@ -25,3 +25,5 @@ pub mod Trips
 pub mod Mission
 pub mod PrintedFloats
 pub mod OrderRecords
+pub mod OrderStates
+pub mod OrderFiles
