@@ -27,3 +27,4 @@ pub mod PrintedFloats
 pub mod OrderRecords
 pub mod OrderStates
 pub mod OrderFiles
+pub mod OrdersRead
