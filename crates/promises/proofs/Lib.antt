@@ -28,3 +28,4 @@ pub mod OrderRecords
 pub mod OrderStates
 pub mod OrderFiles
 pub mod OrdersRead
+pub mod OrdersWritten

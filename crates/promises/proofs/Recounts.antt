@@ -54,7 +54,7 @@ some-layer : (zs : List ℤ) → 2 ≤ length zs → 1 ≤ count zs
 some-layer [] l = absurd (omega arith)
 some-layer (z ∷ zs) l = omega arith
 
-clash : {b : Bool} → b ≡ true → b ≡ false → ⊥
+pub clash : {b : Bool} → b ≡ true → b ≡ false → ⊥
 clash p q = let z : _≡_ {A = ℕ} 0 1 = cc in omega arith
 
 -- boundaries over the datum rise where their heights do
@@ -62,7 +62,7 @@ lt-datum : (a b : ℤ) → 1 ≤ datum a → 1 ≤ datum b → datum a < datum b
 lt-datum a b p q l = subst (λ (z : ℤ). a <ℤ z) (height-datum b q) (subst (λ (z : ℤ). z <ℤ heightOf (datum b)) (height-datum a p) (lt-up (datum a) (datum b) l))
 
 -- there is only one lowest index at fault
-fault-only : (p : Plate) (bound : ℕ) (zs : List ℤ) (i j : ℕ) → LowestFault p bound zs i → LowestFault p bound zs j → i ≡ j
+pub fault-only : (p : Plate) (bound : ℕ) (zs : List ℤ) (i j : ℕ) → LowestFault p bound zs i → LowestFault p bound zs j → i ≡ j
 fault-only p bound zs i j a b = go (decLt i j) (decLt j i)
   where
     go : Dec (i < j) → Dec (j < i) → i ≡ j
@@ -162,7 +162,7 @@ module _ (N T bound : ℕ) (table : List ℕ) (settings : paper.Settings N T) (z
 
   -- ---- one of two: 13 at the lowest index at fault, or the error of an admissible sequence
 
-  abbrev Verdict : Type 0
+  abbrev pub Verdict : Type 0
   Verdict = ((i : ℕ) × LowestFault p bound zs i × (answer ≡ refused 13 i)) ⊎ (Admissible p bound zs × (answer ≡ done (error p zs)))
 
   abbrev startOut : Bool
@@ -171,7 +171,7 @@ module _ (N T bound : ℕ) (table : List ℕ) (settings : paper.Settings N T) (z
   at-start : atFault p bound zs 0 ≡ startOut
   at-start = ap (λ (b : Bool). ltb (length zs) 2 || b) (sym (start-words T (zs ! 0)))
 
-  admissible-faultless : Admissible p bound zs → (i : ℕ) → i ≤ count zs → atFault p bound zs i ≡ false
+  pub admissible-faultless : Admissible p bound zs → (i : ℕ) → i ≤ count zs → atFault p bound zs i ≡ false
   admissible-faultless a zero l =
       at-start ∙ simp (le-ltb (length zs) 2 (two zs (a .layered)), start-at p bound zs (count zs) (a .stack))
   admissible-faultless a (suc k) l =
@@ -204,7 +204,7 @@ module _ (N T bound : ℕ) (table : List ℕ) (settings : paper.Settings N T) (z
       before zero u = at-start ∙ e
       before (suc j) u = words layered start j (λ i v. quiet-before i (omega arith)) ∙ quiet-before j (omega arith)
 
-  verdict : Verdict
+  pub verdict : Verdict
   verdict = go startOut refl
     where
       past : startOut ≡ false → 2 ≤ length zs → starts (tmax T) (datum (zs ! 0)) ≡ true → Dec (m < count zs) → Verdict
