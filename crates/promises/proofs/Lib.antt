@@ -29,3 +29,4 @@ pub mod OrderStates
 pub mod OrderFiles
 pub mod OrdersRead
 pub mod OrdersWritten
+pub mod OrdersTrip
