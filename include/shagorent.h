@@ -30,7 +30,7 @@ extern "C" {
  * minor version has more functions, or a rule that moved, as its changelog tells. `shagorent_version` answers the library's own, in the form of
  * SHAGORENT_VERSION: ask once that the two agree. */
 #define SHAGORENT_VERSION_MAJOR 4u
-#define SHAGORENT_VERSION_MINOR 4u
+#define SHAGORENT_VERSION_MINOR 5u
 #define SHAGORENT_VERSION_PATCH 0u
 #define SHAGORENT_VERSION (SHAGORENT_VERSION_MAJOR * 10000u + SHAGORENT_VERSION_MINOR * 100u + SHAGORENT_VERSION_PATCH)
 
@@ -45,6 +45,7 @@ extern "C" {
 #define SHAGORENT_MOST_COUNTS 512u        /* of any plan */
 #define SHAGORENT_TABLE_CELLS_MAX 18368u  /* of the table of any table file, SHAGORENT_MOST_CELLS */
 #define SHAGORENT_TABLE_FILE_MAX 76936u   /* bytes of any table file */
+#define SHAGORENT_ORDER_FILE_MAX 8198u    /* bytes of any order file, 16 * SHAGORENT_MOST_COUNTS + 6 */
 #define SHAGORENT_LEAST_STEP 1u           /* of a motor, in eighths of a micrometre */
 #define SHAGORENT_GREATEST_STEP 8192u
 #define SHAGORENT_LOWEST_BOUNDARY (-31)   /* that a motor can be sent to */
@@ -56,7 +57,7 @@ extern "C" {
 #define SHAGORENT_DONE 0u
 #define SHAGORENT_HEIGHT 1u          /* height outside 1 to 512; 0 */
 #define SHAGORENT_NO_THICKNESS 2u    /* no thickness allowed; 0 */
-#define SHAGORENT_SHORT_BUFFER 3u    /* a lent buffer shorter than stated; which, from 1, of those with a stated length, in the order of the parameters */
+#define SHAGORENT_SHORT_BUFFER 3u    /* a lent buffer or list shorter than stated; which, from 1, of those with a stated length, in the order of the parameters */
 #define SHAGORENT_BOUNDARY_COUNT 4u  /* an odd number of boundaries, or more than 64; the number, in writing a job the column */
 #define SHAGORENT_BOUNDARY 5u        /* a boundary above the height, or not above the one before; the first such index, in writing a job the column */
 #define SHAGORENT_CELL 6u            /* a cell out of bounds for the table's column count; the lowest such index, in reading a table file the row's first byte */
@@ -66,11 +67,17 @@ extern "C" {
 #define SHAGORENT_COUNT 10u          /* count 0 or above the greatest; 0 */
 #define SHAGORENT_NO_SEQUENCE 11u    /* no admissible sequence of that count; 0 */
 #define SHAGORENT_UNREADABLE 12u     /* sheets that do not read back; the layer, or 0 */
-#define SHAGORENT_NOT_ADMISSIBLE 13u /* a sequence or a layer that is not admissible; the lowest index at fault */
-#define SHAGORENT_STEP 14u           /* step outside 1 to 8,192; 0 */
+#define SHAGORENT_NOT_ADMISSIBLE 13u /* a sequence, for orders without a bound, or a layer that is not admissible; the lowest index at fault */
+#define SHAGORENT_STEP 14u           /* step outside 1 to 8,192, of a motor height or of orders; 0 */
 #define SHAGORENT_MOTOR_BOUNDARY 15u /* boundary outside -31 to 543; 0 */
-#define SHAGORENT_MALFORMED 16u      /* a malformed job or table file; the first byte of the record at fault, or of what stands after the end */
+#define SHAGORENT_MALFORMED 16u      /* a malformed job, table or order file; the first byte of the record at fault, or of what stands after the end */
 #define SHAGORENT_TOO_LARGE 17u      /* a job too large for the caller; the first byte of its settings record */
+#define SHAGORENT_NO_CURE 18u        /* a layer of a thickness whose cure time is 0; the first such layer, from 1 */
+
+/* Kinds of orders, which are those of their records. */
+#define SHAGORENT_LIFT 48u   /* lift to a height */
+#define SHAGORENT_CURE 49u   /* cure for a time */
+#define SHAGORENT_FINISH 50u /* finish after a number of layers */
 
 typedef struct {
     uint32_t number;
@@ -110,6 +117,14 @@ typedef struct {
     uint32_t bound;
     uint64_t place;
 } shagorent_job_reply;
+
+typedef struct {
+    uint32_t number;
+    uint32_t kind;  /* SHAGORENT_LIFT, SHAGORENT_CURE or SHAGORENT_FINISH; 0 where refused */
+    float amount;   /* of a lift micrometres, of a cure seconds, both exact; 0 for a finish and where refused */
+    uint32_t count; /* of a finish the layers; 0 otherwise */
+    uint64_t place;
+} shagorent_order_reply;
 
 /* ---- Version. */
 
@@ -229,6 +244,35 @@ shagorent_reply shagorent_write_table(const uint32_t *table, size_t table_length
  * file it is, its place is the first byte of the record at fault, and for bytes after the end record the first of them. The file is judged whole
  * before the table is written. */
 shagorent_table_reply shagorent_read_table(const uint8_t *input, size_t input_length, uint32_t *table, size_t table_length);
+
+/* ---- Order files, from the plan to the printer: for each layer of a sequence lift to its upper height above the FIRST boundary z0, then cure
+ * for the time of its thickness; last, finish after so many layers.
+ *
+ * The step is the motor's, in eighths of a micrometre. The cure list L is lent: its entry t-1 is the time of thickness t in 64ths of a second, for
+ * each t from 1 to tmax; entries past tmax are not looked at, and an entry may be 0 where no layer has that thickness. Layer k of z0 < .. < zn is
+ * lifted to (zk - z0) * step / 8 micrometres and cured for L[zk - z(k-1) - 1] / 64 seconds, both exact as floats. The bound plays no part: a
+ * sequence is admissible here if it is so with SHAGORENT_NO_BOUND.
+ *
+ * An order file is records like a job file's. For each layer comes one of kind 48, the height as a float's four bytes, and one of kind 49, the
+ * time as a float's four bytes. Then one of kind 50: the number of layers (2 bytes); and then nothing. There are no remarks. Its length is
+ * 16*n + 6 for n layers, at most SHAGORENT_ORDER_FILE_MAX. It does not tell z0: several sequences can give one file. */
+
+/* Writes the orders of a sequence as an order file. Bytes of `out` past the file stay as they were. Answers the file's length, 16*n + 6.
+ * Refusals 1, 2, 14, 3 (at 1: the cure list is shorter than tmax), 13 (its place as in recounting, without a bound), 18 (at the first layer, from
+ * 1, whose cure entry is 0), 3 (at 2: `out` is shorter than the file). */
+shagorent_reply shagorent_write_orders(uint32_t height, uint32_t set, uint32_t step, const uint16_t *cure, size_t cure_length,
+                                       const int32_t *sequence, size_t sequence_length, uint8_t *out, size_t out_length);
+
+/* The order at `number` of an order file, from 0: 2*j is the lift of layer j+1 and 2*j+1 its cure; 2*n, and whatever is past it, is the finish
+ * after n layers. A file is read exactly if it is what `shagorent_write_orders` writes of some admissible sequence under these settings, step and
+ * cure list, byte for byte. The whole file is judged at every call, also behind the order asked for; so the time to read all orders one by one
+ * grows with the square of the layers, of which there are at most SHAGORENT_MOST_COUNTS.
+ * Refusals 1, 2, 14, 3 (at 1: the cure list is shorter than tmax), 16. The place of 16 is the first byte of the first record after which no such
+ * file is possible: one that is cut off, of a kind or a length that is not due, a lift that no layer on top of those before it can have, or by a
+ * thickness whose cure entry is 0, a cure of another time than the thickness has, a finish below the plate's height or with another number of
+ * layers; for bytes after the finish it is the first of them. Where every cure entry of T is 0 there is no such file, and any input is refused at 0. */
+shagorent_order_reply shagorent_read_order(uint32_t height, uint32_t set, uint32_t step, const uint16_t *cure, size_t cure_length,
+                                           const uint8_t *file, size_t file_length, uint32_t number);
 
 #ifdef __cplusplus
 }
