@@ -1,7 +1,7 @@
 // Document 01 a second time, with 02's b), by listing: every sequence of a small plate is written out, those with a layer wholly under or over
 // the plate are struck off the list, and the chosen one is picked by the definition. Errors come straight from the columns, voxel by voxel;
 // no table is used, and a sheet only to be followed down. Table files, 02's c), are read by the places of their bytes, which the head alone
-// settles, and not record by record. Shares no code with plain.rs.
+// settles, and not record by record; order files, 02's e), by a list of all that there are for a small plate. Shares no code with plain.rs.
 
 use std::collections::BTreeMap;
 
@@ -275,4 +275,45 @@ pub fn cells_of_file(file: &[u8]) -> Result<Vec<u32>, (u32, usize)> {
         return Err((16, end + 6));
     }
     Ok(cells)
+}
+
+// ---- Order files ----
+
+/// A sequence's order file, for whatever boundaries and cure times.
+pub fn order_file(step: u32, cure: &[u16], boundaries: &[i64]) -> Vec<u8> {
+    let mut file = Vec::new();
+    for pair in boundaries.windows(2) {
+        let eighths = (pair[1] - boundaries[0]) * i64::from(step);
+        let sixty_fourths = cure[(pair[1] - pair[0]) as usize - 1];
+        for (kind, amount) in [(48, eighths as f64 / 8.0), (49, f64::from(sixty_fourths) / 64.0)] {
+            assert_eq!(f64::from(amount as f32), amount, "it is an f32");
+            file.extend([4, 0, kind, 0]);
+            file.extend((amount as f32).to_le_bytes());
+        }
+    }
+    let layers = boundaries.len() - 1;
+    file.extend([2, 0, 50, 0, (layers % 256) as u8, (layers / 256) as u8]);
+    file
+}
+
+impl Plate {
+    /// Every sequence that orders can be written of: admissible without a bound, and no layer has the cure time 0.
+    pub fn printable(&self, cure: &[u16]) -> Vec<Vec<i64>> {
+        let unbound = Plate { height: self.height, set: self.set.clone(), columns: vec![], bound: u32::MAX };
+        let every = unbound.every_sequence().into_iter().map(|sequence| sequence.boundaries);
+        let is_cured = |pair: &[i64]| cure[(pair[1] - pair[0]) as usize - 1] != 0;
+        every.filter(|z| unbound.is_admissible(z) && z.windows(2).all(is_cured)).collect()
+    }
+}
+
+/// Of all files that there are, none where the input is one of them, else the furthest end of a record up to which one of them agrees with it.
+pub fn order_fault(files: &[Vec<u8>], input: &[u8]) -> Option<usize> {
+    if files.iter().any(|file| file == input) {
+        return None;
+    }
+    let agreeing = |file: &Vec<u8>| {
+        let ends = (0..file.len()).step_by(8).chain([file.len()]);
+        ends.filter(|&end| input.get(..end) == Some(&file[..end])).max().unwrap_or(0)
+    };
+    Some(files.iter().map(agreeing).max().unwrap_or(0))
 }

@@ -1,5 +1,5 @@
-// Document 01 once more, with 02's a) to c), the writer of job files, no layer with nothing on it, and table files, in plain safe Rust: every
-// call by its definition, voxel by voxel and cell by cell.
+// Document 01 once more, with 02's a) to c) and e), the writer of job files, no layer with nothing on it, table files, and order files, in plain
+// safe Rust: every call by its definition, voxel by voxel and cell by cell.
 // Each call first gives the refusals in document 01's order; only after the last of them is anything lent written.
 // Heights, starts and thicknesses are i64 here, so that no difference of two inputs can overflow.
 
@@ -476,42 +476,56 @@ pub fn recount(table: &[u32], head: Head, bound: u32, sequence: &[i32]) -> Answe
     check_lent(&[(table.len(), plate.cells())])?;
     check_columns(head.columns)?;
     check_cells(plate, table, head.columns)?;
+    let error = |start: i64, end: i64| table[plate.cell(start, end - start)];
+    let heights = check_sequence(plate, sequence, |start, end| error(start, end) > bound)?;
+    Ok(heights.windows(2).map(|pair| u64::from(error(pair[0], pair[1]))).sum())
+}
+
+/// 13, or the boundaries; `is_over` says which layers are over the bound, and is asked of layers of the table only.
+fn check_sequence(plate: Plate, sequence: &[i32], is_over: impl Fn(i64, i64) -> bool) -> Answer<Vec<i64>> {
     let heights: Vec<i64> = sequence.iter().map(|&z| i64::from(z)).collect();
     if heights.len() < 2 || heights[0] < plate.lowest() || heights[0] > 0 {
         return refuse(13, 0);
     }
     let last = heights.len() - 1;
-    let mut error = 0;
     for i in 1..=last {
         let (start, end) = (heights[i - 1], heights[i]);
         if !plate.allows(end - start) || end > plate.highest() {
             return refuse(13, i as u64);
         }
-        let layer = table[plate.cell(start, end - start)];
         let first_fits = i > 1 || plate.may_end_first(end);
         let last_fits = i < last || plate.may_start_last(start) && end >= plate.height;
-        if layer > bound || !first_fits || !last_fits {
+        if is_over(start, end) || !first_fits || !last_fits {
             return refuse(13, i as u64);
         }
-        error += u64::from(layer);
     }
-    Ok(error)
+    Ok(heights)
 }
 
 // ---- Motor height ----
 
 pub fn motor_height(step: u32, boundary: i32) -> Answer<f32> {
-    if !(1..=MOST_STEP).contains(&step) {
-        return refuse(14, 0);
-    }
+    check_step(step)?;
     if !(-31..=543).contains(&boundary) {
         return refuse(15, 0);
     }
-    Ok(eighth(boundary * step as i32))
+    Ok(part(boundary * step as i32, EIGHTHS))
 }
 
-/// The f32 whose eightfold is the number, put together from sign, exponent and digits; positive zero for 0.
-fn eighth(number: i32) -> f32 {
+/// 14.
+fn check_step(step: u32) -> Answer<()> {
+    if !(1..=MOST_STEP).contains(&step) {
+        return refuse(14, 0);
+    }
+    Ok(())
+}
+
+/// Of which power of 2 the parts are that heights are given in, and cure times.
+const EIGHTHS: u32 = 3;
+const SIXTY_FOURTHS: u32 = 6;
+
+/// The f32 that is so many parts of 2^`parts` to the whole, put together from sign, exponent and digits; positive zero for 0.
+fn part(number: i32, parts: u32) -> f32 {
     let size = number.unsigned_abs();
     if size == 0 {
         return f32::from_bits(0);
@@ -519,7 +533,7 @@ fn eighth(number: i32) -> f32 {
     assert!(size < 1 << 24, "the number has at most 24 binary digits");
     let power = 31 - size.leading_zeros();
     let digits = (size << (23 - power)) & 0x7F_FFFF;
-    let exponent = 127 + power - 3;
+    let exponent = 127 + power - parts;
     let sign = u32::from(number < 0);
     f32::from_bits(sign << 31 | exponent << 23 | digits)
 }
@@ -871,4 +885,175 @@ fn sent(plate: Plate, table: &[u32], columns: u32) -> Vec<u8> {
     }
     put_record(&mut file, 18, &(plate.rows() as u16).to_le_bytes());
     file
+}
+
+// ---- The printer's order list: document 02, e) ----
+
+/// What both calls are handed: settings, step and cure list, of any numbers.
+#[derive(Clone, Copy, Debug)]
+pub struct Printing<'a> {
+    pub height: u32,
+    pub set: u32,
+    pub step: u32,
+    pub cure: &'a [u16],
+}
+
+/// Settings, step and cure list that 1, 2, 14 and 3 at 1 let through.
+#[derive(Clone, Copy)]
+struct Printer<'a> {
+    plate: Plate,
+    step: i32,
+    cure: &'a [u16],
+}
+
+#[derive(Clone, Copy, Debug)]
+pub enum Order {
+    /// To so many micrometres above the first boundary.
+    Lift(f32),
+    /// For so many seconds.
+    Cure(f32),
+    /// After so many layers.
+    Finish(u32),
+}
+
+impl Order {
+    /// Its record: the length of the body, the kind, the body.
+    fn record(self) -> ([u8; 8], usize) {
+        let (kind, body, length) = match self {
+            Order::Lift(micrometres) => (48, micrometres.to_bits(), 4),
+            Order::Cure(seconds) => (49, seconds.to_bits(), 4),
+            Order::Finish(layers) => (50, layers, 2),
+        };
+        let [a, b, c, d] = body.to_le_bytes();
+        ([length, 0, kind, 0, a, b, c, d], 4 + usize::from(length))
+    }
+}
+
+impl<'a> Printing<'a> {
+    fn printer(self) -> Answer<Printer<'a>> {
+        let plate = Plate::new(self.height, self.set)?;
+        check_step(self.step)?;
+        check_lent(&[(self.cure.len(), plate.tmax as usize)])?;
+        Ok(Printer { plate, step: self.step as i32, cure: self.cure })
+    }
+}
+
+impl Printer<'_> {
+    fn is_cured(&self, thickness: i64) -> bool {
+        self.cure[thickness as usize - 1] > 0
+    }
+
+    fn lift(&self, rise: i64) -> Order {
+        Order::Lift(part(rise as i32 * self.step, EIGHTHS))
+    }
+
+    fn cure(&self, thickness: i64) -> Order {
+        Order::Cure(part(i32::from(self.cure[thickness as usize - 1]), SIXTY_FOURTHS))
+    }
+
+    /// A lift and a cure for each layer, and the finish.
+    fn orders(&self, heights: &[i64]) -> Vec<Order> {
+        let layer = |pair: &[i64]| [self.lift(pair[1] - heights[0]), self.cure(pair[1] - pair[0])];
+        let mut orders: Vec<Order> = heights.windows(2).flat_map(layer).collect();
+        orders.push(Order::Finish(heights.len() as u32 - 1));
+        orders
+    }
+}
+
+pub fn write_orders(printing: Printing, sequence: &[i32], out: &mut [u8]) -> Answer<u64> {
+    let printer = printing.printer()?;
+    let heights = check_sequence(printer.plate, sequence, |_, _| false)?;
+    let uncured = heights.windows(2).position(|pair| !printer.is_cured(pair[1] - pair[0]));
+    refuse_at(18, uncured.map(|layer| layer + 1))?;
+    let mut file = Vec::new();
+    for order in printer.orders(&heights) {
+        let (record, size) = order.record();
+        file.extend(&record[..size]);
+    }
+    check_lent(&[(0, 0), (out.len(), file.len())])?;
+    out[..file.len()].copy_from_slice(&file);
+    Ok(file.len() as u64)
+}
+
+/// A beginning of an admissible sequence that can be completed: its first boundary, where its layers so far end, the last one's thickness.
+/// No layer so far has the cure time 0.
+#[derive(Clone, Copy)]
+struct Begun {
+    first: i64,
+    end: i64,
+    thickness: i64,
+}
+
+/// Which orders may come next, found by trying every sequence that the file may be of, from every first boundary.
+struct Tried<'a> {
+    printer: Printer<'a>,
+    /// For each height from the lowest up, whether layers with a cure time can end an admissible sequence from there.
+    completes: Vec<bool>,
+}
+
+impl<'a> Tried<'a> {
+    /// Heights from N up end a sequence themselves: the last layer begins below N, so none is too high.
+    fn new(printer: Printer<'a>) -> Tried<'a> {
+        let plate = printer.plate;
+        let mut tried = Tried { printer, completes: vec![true; (plate.highest() - plate.lowest() + 1) as usize] };
+        for height in (plate.lowest()..plate.height).rev() {
+            let leads_up = tried.layers_from(height).next().is_some();
+            tried.completes[(height - plate.lowest()) as usize] = leads_up;
+        }
+        tried
+    }
+
+    /// The thicknesses of a layer from here, below N, after which the sequence can be completed.
+    fn layers_from(&self, height: i64) -> impl Iterator<Item = i64> + '_ {
+        let Printer { plate, .. } = self.printer;
+        let completes = move |t: i64| self.completes[(height + t - plate.lowest()) as usize];
+        plate.thicknesses().filter(move |&t| self.printer.is_cured(t) && completes(t))
+    }
+
+    /// Before any order.
+    fn begin(&self) -> Vec<Begun> {
+        let first_boundaries = self.printer.plate.lowest()..=0;
+        first_boundaries.map(|first| Begun { first, end: first, thickness: 0 }).collect()
+    }
+
+    /// What may come after so many orders of the sequence begun, and how the sequence has then begun.
+    fn next(&self, begun: Begun, orders: usize) -> Vec<(Order, Begun)> {
+        let Printer { plate, .. } = self.printer;
+        if orders % 2 == 1 {
+            return vec![(self.printer.cure(begun.thickness), begun)];
+        }
+        if begun.end >= plate.height {
+            return vec![(Order::Finish(orders as u32 / 2), begun)];
+        }
+        let layers = self.layers_from(begun.end).filter(|t| orders > 0 || plate.may_end_first(begun.end + t));
+        let lifted = |thickness: i64| {
+            let end = begun.end + thickness;
+            (self.printer.lift(end - begun.first), Begun { end, thickness, ..begun })
+        };
+        layers.map(lifted).collect()
+    }
+
+    /// All orders of a file; 16 at the first record that comes next in no sequence.
+    fn read(&self, file: &[u8]) -> Answer<Vec<Order>> {
+        let (mut orders, mut begun, mut at) = (Vec::new(), self.begin(), 0);
+        while !matches!(orders.last(), Some(Order::Finish(_))) {
+            let mut next: Vec<(Order, Begun)> = begun.iter().flat_map(|&one| self.next(one, orders.len())).collect();
+            next.retain(|(order, _)| {
+                let (record, size) = order.record();
+                file[at..].starts_with(&record[..size])
+            });
+            let Some(&(order, _)) = next.first() else { return refuse(16, at as u64) };
+            at += order.record().1;
+            orders.push(order);
+            begun = next.into_iter().map(|(_, begun)| begun).collect();
+        }
+        check_nothing_left(file, at)?;
+        Ok(orders)
+    }
+}
+
+pub fn read_order(printing: Printing, file: &[u8], number: u32) -> Answer<Order> {
+    let printer = printing.printer()?;
+    let orders = Tried::new(printer).read(file)?;
+    Ok(orders[orders.len().min(number as usize + 1) - 1])
 }

@@ -1,9 +1,9 @@
-// Document 01's calls, with 02's writer of job files, its b) and its table files, in safe Rust written for speed, to be timed beside the library:
-// planners with the count innermost, adding after the source paper's Algorithm 1, scans row by row. All refusals are given, so the work is the
-// same; tests/quick.rs holds them to plain.rs.
+// Document 01's calls, with 02's writer of job files, its b), its table files and its order files, in safe Rust written for speed, to be timed
+// beside the library: planners with the count innermost, adding after the source paper's Algorithm 1, scans row by row, order files record by
+// record. All refusals are given, so the work is the same; tests/quick.rs holds them to plain.rs.
 
-use crate::plain::{Answer, Columns, Filled, Head, Plate, Refusal, Sheets};
-use crate::plain::{MOST_BOUNDARIES, MOST_COLUMNS, MOST_HEIGHT, NONE};
+use crate::plain::{Answer, Columns, Filled, Head, Order, Plate, Printing, Refusal, Sheets};
+use crate::plain::{MOST_BOUNDARIES, MOST_COLUMNS, MOST_HEIGHT, MOST_STEP, NONE};
 
 fn refuse<T>(number: u32, place: usize) -> Answer<T> {
     Err(Refusal { number, place: place as u64 })
@@ -636,4 +636,209 @@ pub fn read_table(file: &[u8], table: &mut [u32]) -> Answer<Head> {
         }
     }
     Ok(head)
+}
+
+// ---- Orders ----
+
+/// Bytes of a lift's record and of a cure's, and of the finish's.
+const ORDER: usize = 8;
+const FINISH: usize = 6;
+
+/// 1, 2, 14 and 3 for the list.
+fn printer(printing: Printing) -> Answer<Plate> {
+    let plate = settings(Head { height: printing.height, set: printing.set, columns: 0 })?;
+    if printing.step == 0 || printing.step > MOST_STEP {
+        return refuse(14, 0);
+    }
+    if printing.cure.len() < plate.tmax as usize {
+        return refuse(3, 1);
+    }
+    Ok(plate)
+}
+
+/// A whole number of at most 24 binary digits divided by a power of 2: both steps are exact.
+fn micrometres(printing: Printing, rise: i64) -> f32 {
+    (rise as u32 * printing.step) as f32 / 8.0
+}
+
+fn seconds(entry: u16) -> f32 {
+    f32::from(entry) / 64.0
+}
+
+/// 13, without a bound.
+fn check_sequence(plate: Plate, sequence: &[i32]) -> Answer<()> {
+    let Some((&first, rest)) = sequence.split_first().filter(|(_, rest)| !rest.is_empty()) else {
+        return refuse(13, 0);
+    };
+    let first = i64::from(first);
+    if first <= -plate.tmax || first > 0 {
+        return refuse(13, 0);
+    }
+    let mut below = first;
+    for (i, &z) in rest.iter().enumerate() {
+        let z = i64::from(z);
+        let is_last = i + 1 == rest.len();
+        if !plate.allows(z - below) || z > plate.highest() || i == 0 && z <= 0 || is_last && below >= plate.height {
+            return refuse(13, i + 1);
+        }
+        below = z;
+    }
+    if below < plate.height {
+        return refuse(13, rest.len());
+    }
+    Ok(())
+}
+
+pub fn write_orders(printing: Printing, sequence: &[i32], out: &mut [u8]) -> Answer<u64> {
+    let plate = printer(printing)?;
+    check_sequence(plate, sequence)?;
+    let entry = |layer: &[i32]| printing.cure[(layer[1] - layer[0]) as usize - 1];
+    if let Some(layer) = sequence.windows(2).position(|layer| entry(layer) == 0) {
+        return refuse(18, layer + 1);
+    }
+    let layers = sequence.len() - 1;
+    let size = 2 * ORDER * layers + FINISH;
+    if out.len() < size {
+        return refuse(3, 2);
+    }
+    let (orders, finish) = out[..size].split_at_mut(2 * ORDER * layers);
+    for (two, layer) in orders.chunks_exact_mut(2 * ORDER).zip(sequence.windows(2)) {
+        two[..4].copy_from_slice(&[4, 0, 48, 0]);
+        two[4..8].copy_from_slice(&micrometres(printing, i64::from(layer[1] - sequence[0])).to_le_bytes());
+        two[8..12].copy_from_slice(&[4, 0, 49, 0]);
+        two[12..].copy_from_slice(&seconds(entry(layer)).to_le_bytes());
+    }
+    let layers = (layers as u16).to_le_bytes();
+    finish.copy_from_slice(&[2, 0, 50, 0, layers[0], layers[1]]);
+    Ok(size as u64)
+}
+
+/// What a record of an order file is refused for, each of the reader's checks by its own name.
+#[derive(Clone, Copy, Debug, PartialEq, Eq, PartialOrd, Ord)]
+pub enum Fault {
+    /// Fewer than 4 bytes left.
+    CutHead,
+    /// A kind that the kinds before it do not allow: they go 48 and 49 in turn, once or more, then 50.
+    Kind,
+    /// A length wrong for the kind.
+    Length,
+    /// A body past the input.
+    CutBody,
+    /// A height that is not the one before and a thickness that is allowed and has a cure time.
+    Lift,
+    /// A layer on top of layers that, wherever they begin, end at N or above.
+    Over,
+    /// Another time than the thickness has.
+    Cure,
+    /// Another number of layers.
+    Layers,
+    /// A finish below N.
+    Below,
+    /// Bytes after the finish.
+    After,
+}
+
+impl Fault {
+    /// As document 02's f) will number them; until then each is 16.
+    pub fn split(self) -> u32 {
+        match self {
+            Fault::CutHead | Fault::CutBody => 16,
+            Fault::Kind => 19,
+            Fault::Length => 20,
+            _ => 21,
+        }
+    }
+}
+
+/// What is known after the records so far.
+struct Reading {
+    layers: usize,
+    /// Of the first layer, and of all.
+    first: i64,
+    rise: i64,
+    /// Of a layer that is lifted and not cured yet; 0 for none.
+    thickness: i64,
+}
+
+/// The body of the record that the bytes begin with, of the kind and length that may come here.
+fn body<'a>(reading: &Reading, left: &'a [u8]) -> Result<(u16, &'a [u8]), Fault> {
+    let Some((head, rest)) = left.split_at_checked(4) else { return Err(Fault::CutHead) };
+    let (length, kind) = (u16::from_le_bytes([head[0], head[1]]), u16::from_le_bytes([head[2], head[3]]));
+    let due = match kind {
+        48 if reading.thickness == 0 => 4,
+        49 if reading.thickness > 0 => 4,
+        50 if reading.thickness == 0 && reading.layers > 0 => 2,
+        _ => return Err(Fault::Kind),
+    };
+    if length != due {
+        return Err(Fault::Length);
+    }
+    Ok((kind, rest.get(..usize::from(due)).ok_or(Fault::CutBody)?))
+}
+
+/// The lowest first boundary is the height of the first layer below 1: from there the layers end lowest.
+fn lift(plate: Plate, printing: Printing, reading: &mut Reading, body: &[u8]) -> Result<(), Fault> {
+    let is_due = |t: &i64| {
+        let lifted = micrometres(printing, reading.rise + t).to_le_bytes();
+        printing.cure[*t as usize - 1] != 0 && lifted == body
+    };
+    let Some(thickness) = plate.thicknesses().find(is_due) else { return Err(Fault::Lift) };
+    if reading.layers > 0 && reading.rise >= plate.height + reading.first - 1 {
+        return Err(Fault::Over);
+    }
+    if reading.layers == 0 {
+        reading.first = thickness;
+    }
+    (reading.rise, reading.thickness) = (reading.rise + thickness, thickness);
+    Ok(())
+}
+
+fn cure(printing: Printing, reading: &mut Reading, body: &[u8]) -> Result<(), Fault> {
+    if seconds(printing.cure[reading.thickness as usize - 1]).to_le_bytes() != body {
+        return Err(Fault::Cure);
+    }
+    (reading.layers, reading.thickness) = (reading.layers + 1, 0);
+    Ok(())
+}
+
+/// From first boundary 0 the layers end highest.
+fn finish(plate: Plate, reading: &Reading, body: &[u8]) -> Result<(), Fault> {
+    if usize::from(u16::from_le_bytes([body[0], body[1]])) != reading.layers {
+        return Err(Fault::Layers);
+    }
+    if reading.rise < plate.height {
+        return Err(Fault::Below);
+    }
+    Ok(())
+}
+
+/// The layers of an order file, or what its first record at fault is refused for and its first byte; record by record.
+pub fn judge(plate: Plate, printing: Printing, file: &[u8]) -> Result<usize, (Fault, usize)> {
+    let mut reading = Reading { layers: 0, first: 0, rise: 0, thickness: 0 };
+    let mut at = 0;
+    loop {
+        let at_record = |fault: Fault| (fault, at);
+        let (kind, body) = body(&reading, &file[at..]).map_err(at_record)?;
+        match kind {
+            48 => lift(plate, printing, &mut reading, body),
+            49 => cure(printing, &mut reading, body),
+            _ => finish(plate, &reading, body),
+        }
+        .map_err(at_record)?;
+        at += 4 + body.len();
+        if kind == 50 {
+            return if at < file.len() { Err((Fault::After, at)) } else { Ok(reading.layers) };
+        }
+    }
+}
+
+pub fn read_order(printing: Printing, file: &[u8], number: u32) -> Answer<Order> {
+    let plate = printer(printing)?;
+    let layers = judge(plate, printing, file).or_else(|(_, at)| refuse(16, at))?;
+    let number = number as usize;
+    if number >= 2 * layers {
+        return Ok(Order::Finish(layers as u32));
+    }
+    let amount = f32::from_bits(cell(&file[ORDER * number + 4..ORDER * number + 8]));
+    Ok(if number % 2 == 0 { Order::Lift(amount) } else { Order::Cure(amount) })
 }

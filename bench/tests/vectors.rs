@@ -1,6 +1,7 @@
 // Document 01's own cases by the plain implementation, with 02's b): the worked plate, P1 to P13, and the limits on both sides; columns cell by
-// cell; its plate as a table file. Then the outside vectors of b) and c), by the quick one too where it has the call.
+// cell; its plate as a table file, and its orders. Then the outside vectors of b), c) and e), by the quick one too where it has the call.
 
+use bench::brute;
 use bench::plain::*;
 use bench::quick::{self, Reach};
 use std::fmt::Debug;
@@ -371,7 +372,120 @@ fn tables_of_no_columns_are_sent() {
     assert_eq!(received(&file, 24), Ok((head_of(4, 6, 5), table)));
 }
 
-// ---- The outside vectors of document 02, b) and c) ----
+// ---- Orders ----
+
+const LIST: &[u16] = &[0, 128, 160];
+
+/// The worked plate, with another step or cure list.
+fn printing(step: u32, cure: &[u16]) -> Printing<'_> {
+    Printing { height: 4, set: 6, step, cure }
+}
+
+/// An order's kind, its float's bits and its layers.
+fn shown(order: Order) -> (u32, u32, u32) {
+    match order {
+        Order::Lift(micrometres) => (48, micrometres.to_bits(), 0),
+        Order::Cure(seconds) => (49, seconds.to_bits(), 0),
+        Order::Finish(layers) => (50, 0, layers),
+    }
+}
+
+/// By the plain reader and the quick one.
+fn ordered(printing: Printing, file: &[u8], number: u32) -> Answer<(u32, u32, u32)> {
+    let [plain, quick] = [read_order, quick::read_order].map(|read| read(printing, file, number).map(shown));
+    assert_eq!(plain, quick);
+    plain
+}
+
+/// By the plain writer and the quick one, which leave what they refuse, and what is past the file, as it was.
+fn orders(printing: Printing, sequence: &[i32], room: usize) -> Answer<Vec<u8>> {
+    let [plain, quick] = [write_orders, quick::write_orders].map(|write| {
+        let mut out = vec![9; room];
+        let answer = write(printing, sequence, &mut out);
+        let kept = answer.map_or(0, |size| size as usize);
+        assert!(out[kept..].iter().all(|&byte| byte == 9));
+        answer.map(|_| out[..kept].to_vec())
+    });
+    assert_eq!(plain, quick);
+    plain
+}
+
+/// Of lifts to so many units, each by the difference from the one before; the finish tells their number.
+fn lifted(printing: Printing, units: &[i64]) -> Vec<u8> {
+    brute::order_file(printing.step, printing.cure, &[&[0], units].concat())
+}
+
+#[test]
+fn worked_orders_written() {
+    let plate = printing(15, LIST);
+    let file = bytes("04003000000070400400310000000040040030000000F0400400310000000040020032000200");
+    assert_eq!(orders(plate, &[0, 2, 4], 38), Ok(file.clone()));
+    assert_eq!(orders(plate, &[0, 2, 4], 45), Ok(file.clone()));
+    assert_eq!(orders(plate, &[0, 2, 4], 37), refused(3, 2));
+    let higher = orders(plate, &[-1, 1, 4], 38).unwrap();
+    assert_eq!(higher[16..32], bytes("04003000000016410400310000002040"));
+    let three = orders(plate, &[-1, 1, 3, 5], 54).unwrap();
+    assert_eq!((three.len(), &three[36..40]), (54, &bytes("00003441")[..]));
+    let uncured = printing(15, &[0, 0, 160]);
+    assert_eq!(orders(uncured, &[0, 2, 4], 0), refused(18, 1));
+    assert_eq!(orders(uncured, &[-1, 2, 4], 0), refused(18, 2));
+    assert_eq!(orders(printing(15, &[0, 128]), &[], 0), refused(3, 1));
+    assert_eq!(orders(printing(0, &[]), &[], 0), refused(14, 0));
+    assert_eq!(orders(printing(8_193, LIST), &[0, 2, 4], 38), refused(14, 0));
+    assert!(orders(printing(8_192, LIST), &[0, 2, 4], 38).is_ok());
+    assert_eq!(orders(plate, &[0, 2, 4, 6], 60), refused(13, 3));
+    assert_eq!(orders(plate, &[-2, 0, 2, 4], 60), refused(13, 1));
+    let lower = Printing { height: 3, ..plate };
+    assert_eq!(orders(lower, &[0, 2, 4], 38), orders(lower, &[-1, 1, 3], 38));
+}
+
+#[test]
+fn highest_orders() {
+    let cure = [&[1; 31][..], &[65_535]].concat();
+    let sequence: Vec<i32> = (0..17).map(|k| -31 + 32 * k).chain([511, 543]).collect();
+    assert_eq!(sequence.len(), 19);
+    for (step, last) in [(15, "00888644"), (8_192, "00800F49")] {
+        let high = Printing { height: 512, set: ANY, step, cure: &cure };
+        let file = orders(high, &sequence, 16 * 18 + 6).unwrap();
+        assert_eq!(file[16 * 17 + 4..16 * 17 + 8], bytes(last));
+        assert_eq!(file[12..16], bytes("00FF7F44"));
+        assert_eq!(file[16 * 16 + 12..16 * 16 + 16], bytes("0000803C"));
+        assert_eq!(ordered(high, &file, 36), Ok((50, 0, 18)));
+    }
+}
+
+#[test]
+fn worked_orders_read() {
+    let plate = printing(15, LIST);
+    let file = orders(plate, &[0, 2, 4], 38).unwrap();
+    assert_eq!(ordered(plate, &file, 0), Ok((48, 3.75_f32.to_bits(), 0)));
+    assert_eq!(ordered(plate, &file, 1), Ok((49, 2.0_f32.to_bits(), 0)));
+    for number in [4, 5, ANY] {
+        assert_eq!(ordered(plate, &file, number), Ok((50, 0, 2)));
+    }
+    let refused_at = |printing: Printing, file: &[u8], place: u64| {
+        for number in [0, 3, ANY] {
+            assert_eq!(ordered(printing, file, number), refused(16, place));
+        }
+    };
+    refused_at(plate, &lifted(plate, &[2, 4, 6, 8]), 48);
+    refused_at(plate, &lifted(plate, &[2, 5, 7]), 32);
+    refused_at(plate, &lifted(plate, &[2]), 16);
+    refused_at(plate, &[2, 0, 50, 0, 0, 0], 0);
+    for first in ["00007140", "000070C0", "0000C07F", "00000080"] {
+        refused_at(plate, &[&file[..4], &bytes(first), &file[8..]].concat(), 0);
+    }
+    refused_at(plate, &file[..37], 32);
+    refused_at(plate, &[&file[..], &[0]].concat(), 38);
+    refused_at(printing(15, &[0, 0, 160]), &file, 0);
+    for nothing in [&file[..], &[], &[0; 100]] {
+        refused_at(printing(15, &[9, 0, 0]), nothing, 0);
+    }
+    assert_eq!(ordered(printing(15, &[0, 128]), &[], 0), refused(3, 1));
+    assert_eq!(ordered(printing(0, &[0, 128]), &[], 0), refused(14, 0));
+}
+
+// ---- The outside vectors of document 02, b), c) and e) ----
 
 /// The cases of tools/vectors/NAME.txt, each by its fields.
 fn outside(name: &str) -> Vec<Vec<String>> {
@@ -512,5 +626,48 @@ fn outside_tables_sent() {
             let answer = write(&cells, head, &mut out);
             assert_eq!((answer, out), expected, "case {case}");
         }
+    }
+}
+
+fn outside_orders_read(name: &str, number: usize) {
+    let cases = outside(name);
+    assert_eq!(cases.len(), number);
+    for (case, fields) in cases.iter().enumerate() {
+        let [height, set, step, number] = [0, 1, 2, 5].map(|i| one(&fields[i]));
+        let cure = list(&fields[3]);
+        let answer = ordered(Printing { height, set, step, cure: &cure }, &bytes(&fields[4]), number);
+        let [kind, whole, bits] = [8, 9, 10].map(|i| one::<u32>(&fields[i]));
+        let layers = if kind == 50 { whole } else { 0 };
+        let expected = answered(&fields[6], &fields[7]).map(|_| (kind, bits, layers));
+        assert_eq!(answer, expected, "{name}, case {case}");
+        let parts = if kind == 48 { 8.0 } else { 64.0 };
+        if answer.is_ok() && kind < 50 {
+            assert_eq!(f64::from(f32::from_bits(bits)) * parts, f64::from(whole), "{name}, case {case}");
+        }
+    }
+}
+
+#[test]
+fn outside_orders_given() {
+    outside_orders_read("e/read", 334);
+    outside_orders_read("e/cut", 55);
+    outside_orders_read("e/bytes", 76);
+}
+
+#[test]
+fn outside_orders_written() {
+    let cases = outside("e/write");
+    assert_eq!(cases.len(), 220);
+    for (case, fields) in cases.iter().enumerate() {
+        let [height, set, step] = [0, 1, 2].map(|i| one(&fields[i]));
+        let (cure, sequence) = (list(&fields[3]), list::<i32>(&fields[4]));
+        let printing = Printing { height, set, step, cure: &cure };
+        let answer = orders(printing, &sequence, one(&fields[5]));
+        assert_eq!(
+            answer.as_ref().map(|file| file.len() as u64).map_err(|&refusal| refusal),
+            answered(&fields[6], &fields[7]),
+            "case {case}"
+        );
+        assert_eq!(answer.unwrap_or_default(), bytes(&fields[8]), "case {case}");
     }
 }
