@@ -1,4 +1,4 @@
-// Random plates, columns, tables, sheets, sequences, job files and table files, good and damaged, small and full size.
+// Random plates, columns, tables, sheets, sequences, job files, table files and order files, good and damaged, small and full size.
 
 use crate::plain::{self, Head, Plate, MOST_COLUMNS};
 use crate::random::Random;
@@ -574,7 +574,7 @@ fn damage_table_file(random: &mut Random, plate: Plate, file: &mut Vec<u8>) {
             change(file, places[last].1 - 2, &told.to_le_bytes());
         }
         5 | 6 => damage_row(random, plate, row, file),
-        7 | 8 => damage_kind_or_length(random, one, file),
+        7 | 8 => damage_kind_or_length(random, &TABLE_KINDS, one, file),
         _ => move_records(random, plate, &places, file),
     }
 }
@@ -615,10 +615,12 @@ fn damage_row(random: &mut Random, plate: Plate, (from, to): (usize, usize), fil
     }
 }
 
-/// Another kind; another length, told only or with a body to it.
-fn damage_kind_or_length(random: &mut Random, (from, to): (usize, usize), file: &mut Vec<u8>) {
+const TABLE_KINDS: [u16; 15] = [16, 17, 18, 16, 17, 18, 19, 15, 1, 2, 3, 0x1110, 0x0111, 0x0112, 32_768];
+
+/// Another kind, one of these or any; another length, told only or with a body to it.
+fn damage_kind_or_length(random: &mut Random, kinds: &[u16; 15], (from, to): (usize, usize), file: &mut Vec<u8>) {
     let any = random.word() as u16;
-    let kind = random.pick(&[16, 17, 18, 16, 17, 18, 19, 15, 1, 2, 3, 0x1110, 0x0111, 0x0112, 32_768, any]);
+    let kind = kinds.get(random.index(kinds.len() + 1)).copied().unwrap_or(any);
     let length = (to - from - 4) as u16;
     let near = [length.wrapping_add(1), length.wrapping_sub(1), length.wrapping_add(4), length.wrapping_sub(4)];
     let other = if random.one_in(2) { random.pick(&near) } else { random.pick(&[length ^ 256, 0, 2, 10]) };
@@ -677,4 +679,244 @@ fn move_records(random: &mut Random, plate: Plate, places: &[(usize, usize)], fi
     }
     *file = records.concat();
     file.extend(rest);
+}
+
+// ---- Orders ----
+
+/// Mostly a step, now and then a number that is none.
+pub fn step(random: &mut Random) -> u32 {
+    let (some, any) = (random.within(1, 8_192) as u32, random.word() as u32);
+    match random.below(30) {
+        0 => random.pick(&[0, 8_193, 65_536 + some, u32::MAX, any]),
+        1 => 8_192,
+        2 => 1,
+        3..=9 => 15,
+        _ => some,
+    }
+}
+
+/// A time for each thickness up to tmax: often all above 0, else some 0 and now and then all.
+pub fn cure(random: &mut Random, plate: Plate) -> Vec<u16> {
+    let zero_in = random.pick(&[u64::MAX, u64::MAX, u64::MAX, 12, 4, 2]);
+    let zeros = random.one_in(40);
+    let alike = random.one_in(10);
+    let entry = |_| {
+        let any = random.word() as u16;
+        match random.one_in(zero_in) || zeros {
+            true => 0,
+            false if alike => 128,
+            false => random.pick(&[1, 2, 64, 128, 160, 255, 256, 32_768, 65_535, any.max(1), any.max(1)]),
+        }
+    };
+    (0..plate.tmax).map(entry).collect()
+}
+
+/// The plate with the thicknesses alone that have a cure time, as long as there is one; its starts and ends stay.
+fn cured(plate: Plate, cure: &[u16]) -> Plate {
+    let is_cured = |t: &i64| cure[*t as usize - 1] > 0;
+    let mut usable = plate.thicknesses().filter(is_cured);
+    let Some(tmin) = usable.next() else { return plate };
+    let set = usable.map(|t| 1 << (t - 1)).sum::<u32>() | 1 << (tmin - 1);
+    Plate { set, tmin, ..plate }
+}
+
+/// An admissible sequence, of any thicknesses or mostly of the thinnest or the thickest; many begin as high or as low as the first layer lets them.
+fn admissible(random: &mut Random, plate: Plate) -> Vec<i32> {
+    let set: Vec<i64> = plate.thicknesses().collect();
+    let mostly = random.pick(&[None, None, set.first().copied(), set.first().copied(), set.last().copied()]);
+    let mut thickness = || mostly.filter(|_| !random.one_in(40)).unwrap_or_else(|| random.pick(&set));
+    let first = thickness();
+    let mut layers = vec![first];
+    while layers.iter().sum::<i64>() - first < plate.height {
+        layers.push(thickness());
+    }
+    let start = random.within(1 - first, 0);
+    let mut z = random.pick(&[0, 1 - first, start]);
+    let mut sequence = vec![z as i32];
+    for layer in layers {
+        if z < plate.height {
+            z += layer;
+            sequence.push(z as i32);
+        }
+    }
+    sequence
+}
+
+/// A sequence as a caller might hand it in to be printed: mostly admissible and of layers that have a cure time.
+pub fn printed_sequence(random: &mut Random, plate: Plate, cure: &[u16]) -> Vec<i32> {
+    let plate = if random.one_in(3) { plate } else { cured(plate, cure) };
+    match random.below(10) {
+        0 | 1 => sequence(random, plate),
+        2 => {
+            let mut sequence = admissible(random, plate);
+            damage_sequence(random, plate, &mut sequence);
+            sequence
+        }
+        _ => admissible(random, plate),
+    }
+}
+
+pub fn lift_record(file: &mut Vec<u8>, step: u32, rise: i64) {
+    record(file, 48, &((rise * i64::from(step)) as f32 / 8.0).to_le_bytes());
+}
+
+pub fn cure_record(file: &mut Vec<u8>, entry: u16) {
+    record(file, 49, &(f32::from(entry) / 64.0).to_le_bytes());
+}
+
+pub fn finish_record(file: &mut Vec<u8>, layers: usize) {
+    record(file, 50, &(layers as u16).to_le_bytes());
+}
+
+/// A lift and a cure; the list's first entry where it has none for the thickness.
+fn layer_records(file: &mut Vec<u8>, step: u32, cure: &[u16], rise: i64, thickness: i64) {
+    lift_record(file, step, rise);
+    cure_record(file, cure.get((thickness - 1) as usize).copied().unwrap_or(cure[0]));
+}
+
+/// The order file of a sequence that rises, admissible or not.
+pub fn order_file(step: u32, cure: &[u16], sequence: &[i32]) -> Vec<u8> {
+    let mut file = Vec::new();
+    for pair in sequence.windows(2) {
+        layer_records(&mut file, step, cure, i64::from(pair[1] - sequence[0]), i64::from(pair[1] - pair[0]));
+    }
+    finish_record(&mut file, sequence.len() - 1);
+    file
+}
+
+/// An order file as it might come in: of an admissible sequence, or of one with too few layers or too many, then damaged or not.
+pub fn handed_order_file(random: &mut Random, plate: Plate, step: u32, cure: &[u16]) -> Vec<u8> {
+    let usable = if random.one_in(8) { plate } else { cured(plate, cure) };
+    let any = rising(random, usable);
+    let sequence = if any.len() > 1 && random.one_in(4) { any } else { admissible(random, usable) };
+    let mut file = order_file(step, cure, &sequence);
+    if random.one_in(2) {
+        for _ in 0..random.pick(&[1, 1, 1, 2, 3]) {
+            damage_order_file(random, plate, step, cure, &mut file);
+        }
+    }
+    file
+}
+
+const ORDER_KINDS: [u16; 15] = [48, 49, 50, 48, 49, 50, 47, 51, 3, 16, 0x3030, 0x0130, 0x0131, 0x0132, 32_768];
+
+fn damage_order_file(random: &mut Random, plate: Plate, step: u32, cure: &[u16], file: &mut Vec<u8>) {
+    let places = record_places(file);
+    if places.is_empty() || random.one_in(8) {
+        damage_file(random, file);
+        return;
+    }
+    let last = places[places.len() - 1];
+    let any = random.pick(&places);
+    let one = random.pick(&[any, any, last]);
+    match random.below(16) {
+        0 | 1 => cut_near(random, one, file),
+        2 => file.extend((0..random.pick(&[1, 1, 2, 3, 4, 6, 8])).map(|_| random.pick(&[0, 0, 2, 50, 255]))),
+        3..=6 => damage_amount(random, step, &places, any, file),
+        7 | 8 => {
+            let (layers, any) = ((places.len() / 2) as u16, random.word() as u16);
+            let told = random.pick(&[layers.wrapping_sub(1), layers + 1, layers + 256, 0, any]);
+            change(file, last.1 - 2, &told.to_le_bytes());
+        }
+        9 | 10 => damage_kind_or_length(random, &ORDER_KINDS, one, file),
+        11 | 12 => finish_early(random, &places, file),
+        13 => one_layer_more(random, plate, step, cure, &places, file),
+        _ => move_orders(random, &places, file),
+    }
+}
+
+/// Another float: the neighbours of the one that is there, other signs, powers of 2, units and records, and what is no number.
+fn damage_amount(
+    random: &mut Random,
+    step: u32,
+    places: &[(usize, usize)],
+    (from, to): (usize, usize),
+    file: &mut [u8],
+) {
+    if to - from != 8 {
+        return;
+    }
+    let bits_at = |place: usize| u32::from_le_bytes([file[place], file[place + 1], file[place + 2], file[place + 3]]);
+    let bits = bits_at(from + 4);
+    let unit = step as f32 / 8.0;
+    let (up, down) = ((f32::from_bits(bits) + unit).to_bits(), (f32::from_bits(bits) - unit).to_bits());
+    let near =
+        [bits.wrapping_add(1), bits.wrapping_sub(1), up, down, bits ^ 1 << 31, bits ^ 1 << 23, bits.swap_bytes()];
+    let any = random.word() as u32;
+    let far = [0, 1 << 31, 1 << 31, f32::NAN.to_bits(), f32::NAN.to_bits(), f32::INFINITY.to_bits(), 1, any];
+    let (other, end) = random.pick(places);
+    let another = if end - other == 8 { bits_at(other + 4) } else { up };
+    let value = match random.below(6) {
+        0 | 1 => random.pick(&far),
+        2 => another,
+        _ => random.pick(&near),
+    };
+    change(file, from + 4, &value.to_le_bytes());
+}
+
+/// A finish in the place of some layer, often the last, which mostly tells the layers before it.
+fn finish_early(random: &mut Random, places: &[(usize, usize)], file: &mut Vec<u8>) {
+    let (all, any) = (places.len() / 2, random.index(places.len() / 2 + 1));
+    let layers = random.pick(&[all.saturating_sub(1), any]);
+    file.truncate(places[(2 * layers).min(places.len() - 1)].0);
+    finish_record(file, layers + random.pick(&[0, 0, 0, 1]));
+}
+
+/// One more layer on top of the last, by a thickness that has a cure time or by any, and the finish that goes with it.
+fn one_layer_more(
+    random: &mut Random,
+    plate: Plate,
+    step: u32,
+    cure: &[u16],
+    places: &[(usize, usize)],
+    file: &mut Vec<u8>,
+) {
+    let layers = places.len() / 2;
+    let usable: Vec<i64> = cured(plate, cure).thicknesses().collect();
+    let (any, some) = (random.within(1, plate.tmax + 1), random.pick(&usable));
+    let thickness = random.pick(&[some, some, some, any]);
+    let top = places.get(2 * layers.saturating_sub(1)).and_then(|&(from, _)| file.get(from + 4..from + 8));
+    let height = top.map_or(0.0, |four| f32::from_le_bytes([four[0], four[1], four[2], four[3]]));
+    let rise = (f64::from(height) * 8.0 / f64::from(step.max(1))).round() as i64;
+    file.truncate(places[places.len() - 1].0);
+    layer_records(file, step, cure, rise.clamp(0, 600) + thickness, thickness);
+    finish_record(file, layers + 1);
+}
+
+/// Records swapped, missing or twice; layers missing or twice; a remark.
+fn move_orders(random: &mut Random, places: &[(usize, usize)], file: &mut Vec<u8>) {
+    let mut records: Vec<Vec<u8>> = places.iter().map(|&(from, to)| file[from..to].to_vec()).collect();
+    let rest = file[places[places.len() - 1].1..].to_vec();
+    let last = records.len() - 1;
+    let (one, other) = (random.index(last + 1), random.index(last + 1));
+    let layer = one / 2 * 2;
+    match random.below(7) {
+        0 => records.swap(one, other),
+        1 => records.swap(one, (one + 1).min(last)),
+        2 => {
+            records.remove(one);
+        }
+        3 => records.insert(other, records[one].clone()),
+        4 => {
+            records.drain(layer..(layer + 2).min(last));
+        }
+        5 => {
+            let twice = records[layer..(layer + 2).min(last)].to_vec();
+            records.splice(layer..layer, twice);
+        }
+        _ => {
+            let mut remark = Vec::new();
+            record(&mut remark, random.pick(&[32_768, 65_535]), &vec![7; random.pick(&[0, 1, 4])]);
+            records.insert(random.pick(&[0, one, last, last + 1]), remark);
+        }
+    }
+    *file = records.concat();
+    file.extend(rest);
+}
+
+/// An order's number: mostly one of the file's, now and then the last ones, past them, or far beyond.
+pub fn order_number(random: &mut Random, file: &[u8]) -> u32 {
+    let orders = (file.len() / 8) as u64;
+    let (some, any) = (random.below(orders + 3) as u32, random.word() as u32);
+    random.pick(&[some, some, some, 0, 1, orders as u32, 65_536 + some, u32::MAX, any])
 }

@@ -1,10 +1,11 @@
 // The plain implementation against the listing of every sequence, on many small random plates and bounds: the table, both sheets, the
 // list, every sequence read back, sheets that hold anything, recounts of good and bad sequences, pictures, tables joined and taken off, job
-// files, read and saved, and tables sent.
+// files, read and saved, tables sent, and orders written and read.
 
 use bench::brute;
 use bench::make;
 use bench::plain::*;
+use bench::quick;
 use bench::random::Random;
 
 const SEED: u64 = 1;
@@ -302,6 +303,98 @@ fn table_files_agree() {
 }
 
 const MOST_CELLS: usize = 18_368;
+
+/// The bits of an order's float, or its layers, behind its kind.
+fn shown(order: Order) -> (u16, u32) {
+    match order {
+        Order::Lift(micrometres) => (48, micrometres.to_bits()),
+        Order::Cure(seconds) => (49, seconds.to_bits()),
+        Order::Finish(layers) => (50, layers),
+    }
+}
+
+/// What the records of a good file say, each by its kind and its body.
+fn orders_of_file(file: &[u8]) -> Vec<(u16, u32)> {
+    let number = |bytes: &[u8]| bytes.iter().rev().fold(0, |sum, &byte| sum << 8 | u32::from(byte));
+    file.chunks(8).map(|record| (number(&record[2..4]) as u16, number(&record[4..]))).collect()
+}
+
+/// Order files of small plates against a list of all that there are: what is written of every sequence, admissible or not; and files good and
+/// damaged, read by trying every first boundary and by the rule record by record, which is refused where no file of the list goes on.
+#[test]
+fn order_files_agree() {
+    let mut seen = [0; 2];
+    for case in 0..PLATES {
+        let (sample, mut random) = sample(case);
+        let Head { height, set, .. } = sample.head;
+        let plate = Plate::new(height, set).unwrap();
+        let (step, cure) = (random.within(1, 8_192) as u32, make::cure(&mut random, plate));
+        let printing = Printing { height, set, step, cure: &cure };
+        let printable = sample.listed.printable(&cure);
+        let files: Vec<Vec<u8>> = printable.iter().map(|z| brute::order_file(step, &cure, z)).collect();
+        for _ in 0..20 {
+            compare_written(case, printing, &sample.listed, &make::printed_sequence(&mut random, plate, &cure));
+            let file = make::handed_order_file(&mut random, plate, step, &cure);
+            let is_read = compare_orders(case, &mut random, printing, &files, &file);
+            seen[usize::from(is_read)] += 1;
+        }
+        compare_orders(case, &mut random, printing, &files, &[]);
+        if !files.is_empty() {
+            let one = random.index(files.len());
+            compare_written(
+                case,
+                printing,
+                &sample.listed,
+                &printable[one].iter().map(|&z| z as i32).collect::<Vec<_>>(),
+            );
+            assert!(compare_orders(case, &mut random, printing, &files, &files[one]), "case {case}");
+            for length in 0..files[one].len() {
+                compare_orders(case, &mut random, printing, &files, &files[one][..length]);
+            }
+        }
+    }
+    assert!(seen.iter().all(|&times| times > 5 * PLATES), "{seen:?}");
+}
+
+fn compare_written(case: u64, printing: Printing, listed: &brute::Plate, sequence: &[i32]) {
+    let unbound = brute::Plate { height: listed.height, set: listed.set.clone(), columns: vec![], bound: u32::MAX };
+    let boundaries: Vec<i64> = sequence.iter().map(|&z| i64::from(z)).collect();
+    let uncured = |pair: &[i64]| printing.cure[(pair[1] - pair[0]) as usize - 1] == 0;
+    let expected = match unbound.first_fault(&boundaries) {
+        Some(index) => Err(Refusal { number: 13, place: index as u64 }),
+        None => match boundaries.windows(2).position(uncured) {
+            Some(before) => Err(Refusal { number: 18, place: before as u64 + 1 }),
+            None => Ok(brute::order_file(printing.step, printing.cure, &boundaries)),
+        },
+    };
+    let mut out = vec![99; 16 * sequence.len() + 6];
+    let kept = expected.as_ref().map_or(0, |file| file.len());
+    for write in [write_orders, quick::write_orders] {
+        out.fill(99);
+        let answer = write(printing, sequence, &mut out);
+        let told = expected.as_ref().map(|file| file.len() as u64).map_err(|&refusal| refusal);
+        assert_eq!(answer, told, "case {case}, {sequence:?}");
+        assert_eq!(&out[..kept], expected.as_deref().unwrap_or(&[]), "case {case}, {sequence:?}");
+        assert!(out[kept..].iter().all(|&byte| byte == 99), "case {case}");
+    }
+}
+
+/// Whether it is read.
+fn compare_orders(case: u64, random: &mut Random, printing: Printing, files: &[Vec<u8>], file: &[u8]) -> bool {
+    let fault = brute::order_fault(files, file);
+    let number = make::order_number(random, file);
+    let expected = match fault {
+        Some(place) => Err(Refusal { number: 16, place: place as u64 }),
+        None => {
+            let orders = orders_of_file(file);
+            Ok(orders[orders.len().min(number as usize + 1) - 1])
+        }
+    };
+    for read in [read_order, quick::read_order] {
+        assert_eq!(read(printing, file, number).map(shown), expected, "case {case}, {printing:?}, {number}, {file:x?}");
+    }
+    fault.is_none()
+}
 
 /// The sample's table as a file, and where its records begin.
 fn table_file_of(sample: &Sample) -> (Vec<u8>, Vec<usize>) {

@@ -1,7 +1,8 @@
-// The quick Rust that is timed beside the library gives the plain implementation's answers and cells, on good and damaged input.
+// The quick Rust that is timed beside the library gives the plain implementation's answers and cells, on good and damaged input. Order files are
+// read there by the rule record by record, and by plain from every first boundary at once.
 
 use bench::make;
-use bench::plain::{self, Columns, Filled, Head, Plate, Sheets};
+use bench::plain::{self, Columns, Filled, Head, Order, Plate, Printing, Sheets};
 use bench::quick::{self, Reach, Rising};
 use bench::random::Random;
 
@@ -158,5 +159,48 @@ fn receiving_agrees() {
         };
         let expected = run(plain::read_table);
         assert!(run(quick::read_table) == expected, "case {case}, {:?}", expected.0);
+    }
+}
+
+#[test]
+fn orders_written_agree() {
+    for case in 0..2 * CASES {
+        let mut random = Random::new(SEED, case);
+        let size = make::size(&mut random);
+        let plate = make::plate(&mut random, size);
+        let (height, set) = make::named(&mut random, plate);
+        let (step, mut cure) = (make::step(&mut random), make::cure(&mut random, plate));
+        let sequence = make::printed_sequence(&mut random, plate, &cure);
+        cure.resize(make::length(&mut random, cure.len()), 0);
+        let room = make::length(&mut random, 16 * sequence.len().saturating_sub(1) + 6);
+        let printing = Printing { height, set, step, cure: &cure };
+        let run = |call: fn(Printing, &[i32], &mut [u8]) -> plain::Answer<u64>| {
+            let mut out = vec![9; room];
+            (call(printing, &sequence, &mut out), out)
+        };
+        assert!(run(quick::write_orders) == run(plain::write_orders), "case {case}");
+    }
+}
+
+#[test]
+fn orders_read_agree() {
+    for case in 0..4 * CASES {
+        let mut random = Random::new(SEED, case);
+        let size = make::size(&mut random);
+        let plate = make::plate(&mut random, size);
+        let (height, set) = make::named(&mut random, plate);
+        let (step, mut cure) = (make::step(&mut random), make::cure(&mut random, plate));
+        let file = make::handed_order_file(&mut random, plate, step, &cure);
+        let number = make::order_number(&mut random, &file);
+        cure.resize(make::length(&mut random, cure.len()), 0);
+        let printing = Printing { height, set, step, cure: &cure };
+        let run = |call: fn(Printing, &[u8], u32) -> plain::Answer<Order>| {
+            call(printing, &file, number).map(|order| match order {
+                Order::Lift(micrometres) => (48, micrometres.to_bits()),
+                Order::Cure(seconds) => (49, seconds.to_bits()),
+                Order::Finish(layers) => (50, layers),
+            })
+        };
+        assert_eq!(run(quick::read_order), run(plain::read_order), "case {case}");
     }
 }

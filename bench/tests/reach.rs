@@ -1,9 +1,10 @@
-// The random input reaches both sides of document 02's b) and of each rule of its table files, alone and beside other faults: else the comparison
-// would see nothing of it.
+// The random input reaches both sides of document 02's b) and of each rule of its table files and order files, alone and beside other faults: else
+// the comparison would see nothing of it.
 
 use bench::brute;
 use bench::make::{self, Sheets};
-use bench::plain::{self, Fault, Filled, Head, Plate, Received, MOST_COLUMNS};
+use bench::plain::{self, Fault, Filled, Head, Plate, Printing, Received, MOST_COLUMNS};
+use bench::quick;
 use bench::random::Random;
 use std::collections::BTreeMap;
 
@@ -303,4 +304,242 @@ fn see_sending(seen: &mut Seen, cells: &[u32], head: Head, room: usize) {
     note(seen, "6 in several", is_cell && faults > 1);
     note(seen, "6, and 3 at 2 too", is_cell && is_short);
     note(seen, "3 at 2, one byte too short", refused(3, 2) && room + 1 == plate.file_bytes());
+}
+
+/// Settings, step and cure list as a round of the comparison hands them in, and a file or a sequence for them.
+struct Handed<T> {
+    plate: Plate,
+    named: (u32, u32),
+    step: u32,
+    cure: Vec<u16>,
+    given: T,
+}
+
+impl<T> Handed<T> {
+    fn new(random: &mut Random, make: impl Fn(&mut Random, Plate, u32, &[u16]) -> T) -> Handed<T> {
+        let plate = plate_of(random);
+        let named = make::named(random, plate);
+        let (step, mut cure) = (make::step(random), make::cure(random, plate));
+        let given = make(random, plate, step, &cure);
+        cure.resize(make::length(random, cure.len()), 0);
+        Handed { plate, named, step, cure, given }
+    }
+
+    fn printing(&self) -> Printing<'_> {
+        Printing { height: self.named.0, set: self.named.1, step: self.step, cure: &self.cure }
+    }
+}
+
+/// Two files a case, as a round of the comparison has.
+#[test]
+fn order_files_reach_both_sides() {
+    let mut seen = Seen::new();
+    for case in 0..2 * CASES {
+        let mut random = Random::new(SEED, case);
+        let handed = Handed::new(&mut random, make::handed_order_file);
+        let file = &handed.given;
+        let number = make::order_number(&mut random, file);
+        let answer = plain::read_order(handed.printing(), file, number);
+        let refused = answer.err().map_or(0, |r| r.number);
+        let is_short = handed.cure.len() < handed.plate.tmax as usize;
+        let (no_set, no_step) = (handed.named.1 == 0, !(1..=8_192).contains(&handed.step));
+        note(&mut seen, "1", refused == 1);
+        note(&mut seen, "2", refused == 2 && no_set);
+        note(&mut seen, "14", refused == 14);
+        note(&mut seen, "14 by one", refused == 14 && handed.step == 8_193);
+        note(&mut seen, "3 at 1", refused == 3);
+        note(
+            &mut seen,
+            "3 at 1, one entry too short",
+            refused == 3 && handed.cure.len() as i64 == handed.plate.tmax - 1,
+        );
+        let is_named = handed.named == (handed.plate.height as u32, handed.plate.set);
+        if is_named && !is_short && !no_step {
+            match quick::judge(handed.plate, handed.printing(), file) {
+                Ok(layers) => see_orders(&mut seen, &handed, layers, number),
+                Err((fault, place)) => see_order_fault(&mut seen, &handed, fault, place, number),
+            }
+        }
+    }
+    check(&seen);
+}
+
+/// A float of the file, in parts of the whole.
+fn amount(file: &[u8], record: usize, parts: f32) -> f32 {
+    file.get(8 * record + 4..8 * record + 8)
+        .map_or(f32::NAN, |four| f32::from_le_bytes([four[0], four[1], four[2], four[3]]) * parts)
+}
+
+/// The units that the file's layer from 1 is lifted to, where it is so many.
+fn rise(handed: &Handed<Vec<u8>>, layer: usize) -> i64 {
+    (amount(&handed.given, 2 * (layer - 1), 8.0) / handed.step as f32) as i64
+}
+
+/// Of a good file, and the number of an order.
+fn see_orders(seen: &mut Seen, handed: &Handed<Vec<u8>>, layers: usize, number: u32) {
+    let (top, tmax) = (handed.plate.height, handed.plate.tmax);
+    let (first, all) = (rise(handed, 1), rise(handed, layers));
+    let below = if layers > 1 { rise(handed, layers - 1) } else { 0 };
+    let orders = 2 * layers as u32;
+    let used = |t: i64| (1..=layers).any(|k| rise(handed, k) - if k > 1 { rise(handed, k - 1) } else { 0 } == t);
+    let is_zero = |t: &i64| handed.cure[*t as usize - 1] == 0;
+    note(seen, "good", true);
+    note(seen, "good, one layer", layers == 1);
+    note(seen, "good, 100 layers and more", layers >= 100);
+    note(seen, "good, more layers than from 0 on", below >= top);
+    note(seen, "good, as high as may be below the last", layers > 1 && below == top + first - 2);
+    note(seen, "good, just N", all == top);
+    note(seen, "good, N and first layer less 1, from the lowest start just N", all == top + first - 1);
+    note(seen, "good, an allowed thickness of cure time 0", handed.plate.thicknesses().any(|t| is_zero(&t)));
+    note(seen, "good, a time 0 of a thickness not allowed", {
+        (1..=tmax).any(|t| !handed.plate.allows(t) && is_zero(&t))
+    });
+    note(seen, "good, thicknesses of both times alike", {
+        handed
+            .plate
+            .thicknesses()
+            .any(|t| used(t) && used(t + 1) && handed.cure[t as usize - 1] == handed.cure[t as usize])
+    });
+    note(seen, "good, a longer list", handed.cure.len() as i64 > tmax);
+    note(seen, "good, the greatest step", handed.step == 8_192);
+    note(seen, "a lift", number < orders && number % 2 == 0);
+    note(seen, "a cure", number < orders && number % 2 == 1);
+    note(seen, "the last cure", number == orders - 1);
+    note(seen, "the finish", number == orders);
+    note(seen, "one past the finish", number == orders + 1);
+    note(seen, "the greatest number", number == u32::MAX);
+    note(seen, "a number past 65,535 that is small in 16 bits", number > 65_535 && number % 65_536 < orders);
+}
+
+/// Of a file with a fault at the record that begins here.
+fn see_order_fault(seen: &mut Seen, handed: &Handed<Vec<u8>>, fault: quick::Fault, place: usize, number: u32) {
+    use quick::Fault;
+    let (file, top) = (&handed.given, handed.plate.height);
+    let left = &file[place..];
+    let two = |at: usize| left.get(at..at + 2).map(|two| u16::from_le_bytes([two[0], two[1]]));
+    let (length, kind) = (two(0), two(2));
+    note(seen, "no record at all", fault == Fault::CutHead && place == 0 && left.is_empty());
+    note(seen, "a head cut off", fault == Fault::CutHead && !left.is_empty());
+    note(seen, "cut where a record ends", fault == Fault::CutHead && left.is_empty() && place > 0);
+    note(seen, "cut behind the order asked for", {
+        matches!(fault, Fault::CutHead | Fault::CutBody) && (number as usize) < place / 8
+    });
+    note(seen, "another fault behind the order asked for", (number as usize) < place / 8);
+    for (name, wanted) in
+        [("a lift's body cut off", 48), ("a cure's body cut off", 49), ("a finish's body cut off", 50)]
+    {
+        note(seen, name, fault == Fault::CutBody && kind == Some(wanted));
+    }
+    for (name, wanted) in [("a lift's length", 48), ("a cure's length", 49), ("a finish's length", 50)] {
+        note(seen, name, fault == Fault::Length && kind == Some(wanted));
+    }
+    let is_kind = |wanted: u16| fault == Fault::Kind && kind == Some(wanted);
+    note(seen, "a finish first of all", is_kind(50) && place == 0);
+    note(seen, "a finish in a cure's place", is_kind(50) && place % 16 == 8);
+    note(seen, "a cure in a lift's place", is_kind(49));
+    note(seen, "a lift in a cure's place", is_kind(48));
+    note(seen, "a remark", fault == Fault::Kind && kind.is_some_and(|kind| kind >= 32_768));
+    note(seen, "a kind with another high byte", {
+        fault == Fault::Kind && kind.is_some_and(|kind| kind > 255 && (48..=50).contains(&(kind % 256)))
+    });
+    note(seen, "another length, and its body cut off", fault == Fault::Length && length > Some(left.len() as u16 - 4));
+    let layer = place / 16;
+    if fault == Fault::Lift {
+        see_lift(seen, handed, layer);
+    }
+    if fault == Fault::Over {
+        note(seen, "a layer too many, by the least height", rise(handed, layer) == top + rise(handed, 1) - 1);
+        note(seen, "a layer too many, and a start at the lowest of all would take it", {
+            rise(handed, layer) < top + handed.plate.tmax - 1
+        });
+    }
+    if fault == Fault::Cure {
+        let (due, told) = (
+            rise(handed, layer + 1) - if layer > 0 { rise(handed, layer) } else { 0 },
+            amount(file, 2 * layer + 1, 64.0),
+        );
+        let entry = handed.cure.get(due as usize - 1).copied().unwrap_or(0);
+        note(seen, "the time of another thickness", handed.cure.iter().any(|&other| f32::from(other) == told));
+        note(seen, "a time with a sign", told == -f32::from(entry));
+        note(seen, "the time's neighbour", told.to_bits().abs_diff(f32::from(entry).to_bits()) == 1);
+    }
+    if fault == Fault::Layers {
+        let told = i64::from(two(4).unwrap_or(0));
+        note(seen, "one layer less told", told == layer as i64 - 1);
+        note(seen, "one layer more told", told == layer as i64 + 1);
+        note(seen, "another high byte told", told == layer as i64 + 256);
+        note(seen, "another number, and below N", rise(handed, layer) < top);
+    }
+    note(seen, "a finish below N", fault == Fault::Below);
+    note(seen, "a finish one below N", fault == Fault::Below && rise(handed, layer) == top - 1);
+    note(seen, "bytes after the finish, fewer than 4", fault == Fault::After && left.len() < 4);
+    note(seen, "bytes after the finish, 4 or more", fault == Fault::After && left.len() >= 4);
+}
+
+/// Of a lift that no layer gives, on top of so many.
+fn see_lift(seen: &mut Seen, handed: &Handed<Vec<u8>>, layers: usize) {
+    let told = amount(&handed.given, 2 * layers, 8.0);
+    let below = if layers > 0 { rise(handed, layers) } else { 0 };
+    let units = told / handed.step as f32 - below as f32;
+    let is_whole = units.fract() == 0.0 && (1.0..=32.0).contains(&units);
+    let allowed = is_whole && handed.plate.allows(units as i64);
+    note(seen, "a lift by a thickness not allowed", is_whole && !allowed);
+    note(seen, "a lift by a thickness of cure time 0", allowed && handed.cure[units as usize - 1] == 0);
+    note(seen, "no thickness has a cure time", handed.plate.thicknesses().all(|t| handed.cure[t as usize - 1] == 0));
+    note(seen, "a lift by nothing", units == 0.0);
+    note(seen, "a lift that is no number", told.is_nan());
+    note(seen, "a lift with a sign", told < 0.0);
+    note(seen, "a lift to -0", told.to_bits() == 1 << 31);
+    note(seen, "a lift between two units", units > 0.0 && units < handed.plate.tmax as f32 && !is_whole);
+}
+
+#[test]
+fn orders_to_be_written_reach_both_sides() {
+    let mut seen = Seen::new();
+    for case in 0..CASES {
+        let mut random = Random::new(SEED, case);
+        let handed = Handed::new(&mut random, |random, plate, _, cure| make::printed_sequence(random, plate, cure));
+        let stated = 16 * handed.given.len().saturating_sub(1) + 6;
+        let room = make::length(&mut random, stated);
+        see_writing(&mut seen, &handed, stated, room);
+    }
+    check(&seen);
+}
+
+fn see_writing(seen: &mut Seen, handed: &Handed<Vec<i32>>, stated: usize, room: usize) {
+    let answer = plain::write_orders(handed.printing(), &handed.given, &mut vec![0; room]);
+    let refused = |number: u32, place: u64| answer == Err(plain::Refusal { number, place });
+    let number = answer.err().map_or(0, |r| r.number);
+    let (no_step, is_short) = (!(1..=8_192).contains(&handed.step), room < stated);
+    note(seen, "1", number == 1);
+    note(seen, "2", number == 2);
+    note(seen, "14", number == 14);
+    let Ok(plate) = Plate::new(handed.named.0, handed.named.1) else { return };
+    let is_list_short = handed.cure.len() < plate.tmax as usize;
+    let heights: Vec<i64> = handed.given.iter().map(|&z| i64::from(z)).collect();
+    let table = make::tabulate(plate, &[]);
+    let is_admissible = plain::recount(&table.cells, table.head, u32::MAX, &handed.given).is_ok();
+    let is_uncured = |pair: &[i64]| handed.cure.get((pair[1] - pair[0] - 1) as usize) == Some(&0);
+    let uncured = heights.windows(2).filter(|pair| is_uncured(pair)).count();
+    note(seen, "good", answer.is_ok());
+    note(seen, "good, a longer output", answer.is_ok() && room > stated);
+    note(seen, "good, 100 layers and more", answer.is_ok() && heights.len() > 100);
+    note(seen, "good, a first boundary below 0", answer.is_ok() && heights[0] < 0);
+    note(seen, "good, the greatest step", answer.is_ok() && handed.step == 8_192);
+    note(seen, "14, and 3 too", number == 14 && (is_list_short || is_short));
+    note(seen, "14, and 13 too", number == 14 && !is_admissible);
+    note(seen, "3 at 1, one entry too short", refused(3, 1) && handed.cure.len() as i64 == plate.tmax - 1);
+    note(seen, "3 at 1, and 13 too", refused(3, 1) && !is_admissible);
+    note(seen, "3 at 1, and 3 at 2 too", refused(3, 1) && is_short);
+    note(seen, "13 at 0", refused(13, 0));
+    note(seen, "13 past 0", number == 13 && !refused(13, 0));
+    note(seen, "13, and a cure time 0 before", {
+        number == 13 && answer.is_err_and(|r| heights.windows(2).take(r.place as usize).any(is_uncured))
+    });
+    note(seen, "13, and 3 at 2 too", number == 13 && is_short && !no_step);
+    note(seen, "18 at the first layer", refused(18, 1));
+    note(seen, "18 past it", number == 18 && !refused(18, 1));
+    note(seen, "18 at several", number == 18 && uncured > 1);
+    note(seen, "18, and 3 at 2 too", number == 18 && is_short);
+    note(seen, "3 at 2, one byte too short", refused(3, 2) && room + 1 == stated);
 }
