@@ -1,7 +1,7 @@
 // The proved library's C interface as the caller sees it: the structs and functions of libshagorent.a, and a safe call around each.
 // The answers are kept as they come, so that the fields that should be 0 are compared too.
 
-use crate::plain::{Answer, Columns, Filled, Head, Loaded, Picture, Sheets};
+use crate::plain::{Answer, Columns, Filled, Head, Loaded, Order, Picture, Printing, Sheets};
 
 #[repr(C)]
 #[derive(Clone, Copy, Debug, PartialEq, Eq)]
@@ -49,6 +49,24 @@ pub struct JobLoaded {
     pub head: Head,
     pub bound: u32,
     pub place: u64,
+}
+
+#[repr(C)]
+#[derive(Clone, Copy, Debug)]
+pub struct Ordered {
+    pub number: u32,
+    pub kind: u32,
+    pub amount: f32,
+    pub count: u32,
+    pub place: u64,
+}
+
+/// The same bits, so that −0 is not 0.
+impl PartialEq for Ordered {
+    fn eq(&self, other: &Ordered) -> bool {
+        let bits = |o: &Ordered| (o.number, o.kind, o.amount.to_bits(), o.count, o.place);
+        bits(self) == bits(other)
+    }
 }
 
 extern "C" {
@@ -119,6 +137,27 @@ extern "C" {
     ) -> Reply;
     fn shagorent_write_table(table: *const u32, n: usize, head: Head, out: *mut u8, o: usize) -> Reply;
     fn shagorent_read_table(input: *const u8, n: usize, table: *mut u32, t: usize) -> Tabled;
+    fn shagorent_write_orders(
+        height: u32,
+        set: u32,
+        step: u32,
+        cure: *const u16,
+        c: usize,
+        sequence: *const i32,
+        s: usize,
+        out: *mut u8,
+        o: usize,
+    ) -> Reply;
+    fn shagorent_read_order(
+        height: u32,
+        set: u32,
+        step: u32,
+        cure: *const u16,
+        c: usize,
+        file: *const u8,
+        f: usize,
+        number: u32,
+    ) -> Ordered;
     fn shagorent_cells(height: u32, set: u32) -> Reply;
     fn shagorent_entries(height: u32, set: u32) -> Reply;
     fn shagorent_counts(height: u32, set: u32) -> Reply;
@@ -161,6 +200,16 @@ pub fn as_loaded(answer: Answer<Loaded>) -> JobLoaded {
     match answer {
         Ok(Loaded { head, bound }) => JobLoaded { number: 0, head, bound, place: 0 },
         Err(r) => JobLoaded { number: r.number, head: NO_HEAD, bound: 0, place: r.place },
+    }
+}
+
+pub fn as_ordered(answer: Answer<Order>) -> Ordered {
+    let none = Ordered { number: 0, kind: 0, amount: 0.0, count: 0, place: 0 };
+    match answer {
+        Ok(Order::Lift(amount)) => Ordered { kind: 48, amount, ..none },
+        Ok(Order::Cure(amount)) => Ordered { kind: 49, amount, ..none },
+        Ok(Order::Finish(count)) => Ordered { kind: 50, count, ..none },
+        Err(r) => Ordered { number: r.number, place: r.place, ..none },
     }
 }
 
@@ -262,6 +311,28 @@ pub fn write_table(table: &[u32], head: Head, out: &mut [u8]) -> Reply {
 
 pub fn read_table(input: &[u8], table: &mut [u32]) -> Tabled {
     unsafe { shagorent_read_table(input.as_ptr(), input.len(), table.as_mut_ptr(), table.len()) }
+}
+
+pub fn write_orders(printing: Printing, sequence: &[i32], out: &mut [u8]) -> Reply {
+    let Printing { height, set, step, cure } = printing;
+    unsafe {
+        shagorent_write_orders(
+            height,
+            set,
+            step,
+            cure.as_ptr(),
+            cure.len(),
+            sequence.as_ptr(),
+            sequence.len(),
+            out.as_mut_ptr(),
+            out.len(),
+        )
+    }
+}
+
+pub fn read_order(printing: Printing, file: &[u8], number: u32) -> Ordered {
+    let Printing { height, set, step, cure } = printing;
+    unsafe { shagorent_read_order(height, set, step, cure.as_ptr(), cure.len(), file.as_ptr(), file.len(), number) }
 }
 
 pub fn cells(height: u32, set: u32) -> Reply {

@@ -1016,36 +1016,41 @@ impl<'a> Tried<'a> {
         first_boundaries.map(|first| Begun { first, end: first, thickness: 0 }).collect()
     }
 
-    /// What may come after so many orders of the sequence begun, and how the sequence has then begun.
-    fn next(&self, begun: Begun, orders: usize) -> Vec<(Order, Begun)> {
+    /// Tries what may come after so many orders of the sequence begun, each with how the sequence has then begun.
+    fn each_next(&self, begun: Begun, orders: usize, mut try_out: impl FnMut(Order, Begun)) {
         let Printer { plate, .. } = self.printer;
         if orders % 2 == 1 {
-            return vec![(self.printer.cure(begun.thickness), begun)];
+            return try_out(self.printer.cure(begun.thickness), begun);
         }
         if begun.end >= plate.height {
-            return vec![(Order::Finish(orders as u32 / 2), begun)];
+            return try_out(Order::Finish(orders as u32 / 2), begun);
         }
-        let layers = self.layers_from(begun.end).filter(|t| orders > 0 || plate.may_end_first(begun.end + t));
-        let lifted = |thickness: i64| {
+        for thickness in self.layers_from(begun.end) {
             let end = begun.end + thickness;
-            (self.printer.lift(end - begun.first), Begun { end, thickness, ..begun })
-        };
-        layers.map(lifted).collect()
+            if orders > 0 || plate.may_end_first(end) {
+                try_out(self.printer.lift(end - begun.first), Begun { end, thickness, ..begun });
+            }
+        }
     }
 
     /// All orders of a file; 16 at the first record that comes next in no sequence.
     fn read(&self, file: &[u8]) -> Answer<Vec<Order>> {
         let (mut orders, mut begun, mut at) = (Vec::new(), self.begin(), 0);
         while !matches!(orders.last(), Some(Order::Finish(_))) {
-            let mut next: Vec<(Order, Begun)> = begun.iter().flat_map(|&one| self.next(one, orders.len())).collect();
-            next.retain(|(order, _)| {
-                let (record, size) = order.record();
-                file[at..].starts_with(&record[..size])
-            });
-            let Some(&(order, _)) = next.first() else { return refuse(16, at as u64) };
-            at += order.record().1;
+            let (mut found, mut next) = (None, Vec::new());
+            for &one in &begun {
+                self.each_next(one, orders.len(), |order, then| {
+                    let (record, size) = order.record();
+                    if file[at..].starts_with(&record[..size]) {
+                        found = Some((order, size));
+                        next.push(then);
+                    }
+                });
+            }
+            let Some((order, size)) = found else { return refuse(16, at as u64) };
+            at += size;
             orders.push(order);
-            begun = next.into_iter().map(|(_, begun)| begun).collect();
+            begun = next;
         }
         check_nothing_left(file, at)?;
         Ok(orders)

@@ -1,9 +1,9 @@
 // Stands in for the library, by the plain implementation, to try the comparison itself: STANDIN_FAULT plants one of the faults below, and
 // the comparison must find it (bench/faults). Fault 0, or none, is no fault. Used with the feature `standin` only.
 
-use crate::library::{as_lifted, as_loaded, as_pictured, as_reply, as_tabled};
-use crate::library::{JobLoaded, Lifted, Pictured, Reply, Tabled};
-use crate::plain::{self, Answer, Columns, Filled, Head, Plate, Refusal, Sheets};
+use crate::library::{as_lifted, as_loaded, as_ordered, as_pictured, as_reply, as_tabled};
+use crate::library::{JobLoaded, Lifted, Ordered, Pictured, Reply, Tabled};
+use crate::plain::{self, Answer, Columns, Filled, Head, Order, Plate, Printing, Refusal, Sheets};
 use std::mem::swap;
 use std::slice::{from_raw_parts, from_raw_parts_mut};
 use std::sync::OnceLock;
@@ -154,6 +154,105 @@ pub const FAULTS: &[&str] = &[
     "add: 6 against the count with the column",
     "add: the cells before are written though 6 is answered",
     "add: a cell of share 0 is brought into bounds",
+    "write orders: heights above 0 instead of the first boundary",
+    "write orders: a lift by the layer's thickness alone",
+    "write orders: a lift to the layer's lower height",
+    "write orders: heights lose their last eighths",
+    "write orders: cure by eighths",
+    "write orders: the cure entry of the next thickness",
+    "write orders: the time of the layer before",
+    "write orders: a float's bytes are turned round",
+    "write orders: lifts and cures change places",
+    "write orders: the finish tells one layer less",
+    "write orders: the finish has one byte of the layer count",
+    "write orders: the finish is not in the length",
+    "write orders: the last layer is not written",
+    "write orders: a lift past 543 units is 15",
+    "write orders: 14 for the greatest step",
+    "write orders: 14 comes before 2",
+    "write orders: 3 for the list comes before 14",
+    "write orders: 3 for the list is at 2",
+    "write orders: the list may be as short as T has members",
+    "write orders: a longer list is refused",
+    "write orders: 13 comes before 3 for the list",
+    "write orders: z1 may be 0",
+    "write orders: the last boundary but one may be N",
+    "write orders: only the lower rule",
+    "write orders: the last boundary may be below N",
+    "write orders: 18 comes before 13",
+    "write orders: 18 comes before 13 at a later layer",
+    "write orders: 18 at the last such layer",
+    "write orders: 18 from 0",
+    "write orders: 18 at the thickness",
+    "write orders: 18 for an allowed thickness that no layer has",
+    "write orders: 18 for a thickness that is not allowed",
+    "write orders: a cure time 0 is let through",
+    "write orders: 3 for the output comes before 13",
+    "write orders: 3 for the output comes before 18",
+    "write orders: 3 for the output is at 1",
+    "write orders: the layers before are written though 18 is answered",
+    "write orders: the first lift is written though 3 is answered",
+    "write orders: the rest of the output is cleared",
+    "write orders: one byte past the file is written",
+    "write orders: the sequence is written",
+    "write orders: the cure list is written",
+    "read order: the cure record is not compared",
+    "read order: a cure is held to the list's times, of whatever thickness",
+    "read order: a lift's lowest byte is not compared",
+    "read order: a lift's sign is not compared",
+    "read order: a lift is compared by distance",
+    "read order: a lift may be by a thickness that is not allowed",
+    "read order: a lift may be of two layers at once",
+    "read order: a cure time 0 is found at the cure",
+    "read order: a cure time 0 is let through",
+    "read order: some allowed thickness of cure time 0 is 16 at 0",
+    "read order: a layer that begins at N from the lowest start is let through",
+    "read order: layers are held to a first boundary of 0",
+    "read order: layers are held to the lowest start of all",
+    "read order: a layer too many is told at the finish",
+    "read order: the finish is held to the lowest start",
+    "read order: a finish just at N is refused",
+    "read order: a finish below N is let through",
+    "read order: a finish below N is told at the last lift",
+    "read order: the finish's number is not compared",
+    "read order: the high byte of the finish's number is not compared",
+    "read order: a finish of no layers is let through",
+    "read order: a cure may be missing",
+    "read order: a kind's high byte is not looked at",
+    "read order: a length is not looked at",
+    "read order: remarks are skipped",
+    "read order: the finish's body may be cut off",
+    "read order: bytes after the finish are let through",
+    "read order: fewer than 4 bytes after the finish are let through",
+    "read order: bytes after the finish are told at the finish",
+    "read order: what is behind the order asked for is not judged",
+    "read order: a file cut behind the order asked for is read",
+    "read order: a record that is cut off is told at the end of the input",
+    "read order: 16 at the layer's lift",
+    "read order: 16 at the body",
+    "read order: 2 comes before 1",
+    "read order: 14 comes before 2",
+    "read order: 14 is asked after the file",
+    "read order: 14 for the greatest step",
+    "read order: 3 for the list comes before 14",
+    "read order: 16 comes before 3 for the list",
+    "read order: 3 for the list is at 2",
+    "read order: the list may be as short as T has members",
+    "read order: a longer list is refused",
+    "read order: the cure comes before the lift",
+    "read order: orders are numbered from 1",
+    "read order: numbers have 16 bits",
+    "read order: past the finish is 10",
+    "read order: past the finish is the last cure",
+    "read order: the finish tells one layer less",
+    "read order: a lift tells the layer's thickness",
+    "read order: a cure tells 64ths",
+    "read order: the finish has an amount too",
+    "read order: a lift has its layer as count",
+    "read order: a refusal has a kind",
+    "read order: an order done has its place",
+    "read order: the file is written",
+    "read order: the cure list is written",
 ];
 
 fn fault() -> usize {
@@ -1183,6 +1282,508 @@ fn not_sent_wrongly(cells: &[u32], head: Head, answer: Answer<u64>, out: &mut [u
         (6, _) => faults.find(|&cell| !passes(cell)).map_or(Ok(plate.file_bytes() as u64), |cell| refused(6, cell)),
         _ => answer,
     }
+}
+
+// ---- Orders: both calls written here once more, the reader record by record, so that without a fault the rule itself is tried ----
+
+/// Settings, step and list that both calls' first refusals let through.
+#[derive(Clone, Copy)]
+struct Printer<'a> {
+    plate: Plate,
+    step: u32,
+    cure: &'a [u16],
+}
+
+impl Printer<'_> {
+    /// The list's entry, 0 where it has none.
+    fn entry(self, thickness: i64) -> u16 {
+        usize::try_from(thickness - 1).ok().and_then(|i| self.cure.get(i)).copied().unwrap_or(0)
+    }
+
+    fn micrometres(self, units: i64) -> f32 {
+        (units * i64::from(self.step)) as f32 / 8.0
+    }
+
+    fn seconds(self, thickness: i64) -> f32 {
+        f32::from(self.entry(thickness)) / 64.0
+    }
+}
+
+/// 1, 2, 14 and 3 for the list, of whichever call.
+fn printer<'a>(call: &str, printing: Printing<'a>) -> Answer<Printer<'a>> {
+    let planted = |fault: &str| is(&format!("{call}: {fault}"));
+    let Printing { height, set, step, cure } = printing;
+    let bad_step =
+        step == 0 || step > plain::MOST_STEP || step == plain::MOST_STEP && planted("14 for the greatest step");
+    let refuse = |number: u32, place: u64| Err(Refusal { number, place });
+    let plate = match Plate::new(height, set) {
+        Err(refusal) if refusal.number == 1 && set == 0 && planted("2 comes before 1") => return refuse(2, 0),
+        Err(refusal) if refusal.number == 2 && bad_step && planted("14 comes before 2") => return refuse(14, 0),
+        plate => plate?,
+    };
+    let members = plate.thicknesses().count();
+    let stated = if planted("the list may be as short as T has members") { members } else { plate.tmax as usize };
+    let is_short = cure.len() < stated || cure.len() > stated && planted("a longer list is refused");
+    if is_short && planted("3 for the list comes before 14") {
+        return refuse(3, 1);
+    }
+    if bad_step && !planted("14 is asked after the file") {
+        return refuse(14, 0);
+    }
+    if is_short {
+        return refuse(3, if planted("3 for the list is at 2") { 2 } else { 1 });
+    }
+    Ok(Printer { plate, step, cure })
+}
+
+#[no_mangle]
+unsafe extern "C" fn shagorent_write_orders(
+    height: u32,
+    set: u32,
+    step: u32,
+    cure: *const u16,
+    c: usize,
+    sequence: *const i32,
+    s: usize,
+    out: *mut u8,
+    o: usize,
+) -> Reply {
+    let (list, boundaries, room) = (lent(cure, c), lent(sequence, s), lent_mut(out, o));
+    let printing = Printing { height, set, step, cure: list };
+    let answer = written_orders(printing, boundaries, room);
+    if let Ok(size) = answer {
+        if is("write orders: the rest of the output is cleared") {
+            room[size as usize..].fill(0);
+        }
+        if is("write orders: one byte past the file is written") {
+            *out.add(size as usize) = 0;
+        }
+        if is("write orders: the sequence is written") {
+            *sequence.cast_mut() -= 1;
+        }
+        if is("write orders: the cure list is written") {
+            *cure.cast_mut() ^= 1;
+        }
+    }
+    as_reply(answer)
+}
+
+fn written_orders(printing: Printing, sequence: &[i32], out: &mut [u8]) -> Answer<u64> {
+    let printer = match printer("write orders", printing) {
+        Err(Refusal { number: 3, .. }) if is("write orders: 13 comes before 3 for the list") => {
+            check_boundaries(Plate::new(printing.height, printing.set)?, sequence)?;
+            return refused(3, 1);
+        }
+        printer => printer?,
+    };
+    let heights: Vec<i64> = sequence.iter().map(|&z| i64::from(z)).collect();
+    let uncured = uncured(printer, &heights);
+    let is_short = out.len() < 16 * heights.len().saturating_sub(1) + 6;
+    match check_boundaries(printer.plate, sequence) {
+        Err(_) if is_short && is("write orders: 3 for the output comes before 13") => return refused(3, 2),
+        Err(refusal)
+            if uncured
+                .is_some_and(|layer| layer <= refusal.place as usize && is("write orders: 18 comes before 13")) =>
+        {
+            return refused(18, uncured.unwrap());
+        }
+        Err(_) if uncured.is_some() && is("write orders: 18 comes before 13 at a later layer") => {
+            return refused(18, uncured.unwrap());
+        }
+        checked => checked?,
+    }
+    if let Some(layer) = uncured.filter(|_| !is("write orders: a cure time 0 is let through")) {
+        if is_short && is("write orders: 3 for the output comes before 18") {
+            return refused(3, 2);
+        }
+        if is("write orders: the layers before are written though 18 is answered") {
+            put_orders(printer, &heights[..layer], out);
+        }
+        let from = usize::from(is("write orders: 18 from 0"));
+        let thickness = (heights[layer] - heights[layer - 1]) as usize;
+        return refused(18, if is("write orders: 18 at the thickness") { thickness } else { layer - from });
+    }
+    let rise = heights[heights.len() - 1] - heights[0];
+    if rise > 543 && is("write orders: a lift past 543 units is 15") {
+        return refused(15, 0);
+    }
+    if is_short {
+        if is("write orders: the first lift is written though 3 is answered") {
+            put_orders(printer, &heights, out);
+        }
+        return refused(3, if is("write orders: 3 for the output is at 1") { 1 } else { 2 });
+    }
+    put_orders(printer, &heights, out);
+    let finish = if is("write orders: the finish is not in the length") { 0 } else { 6 };
+    Ok(16 * (heights.len() as u64 - 1) + finish)
+}
+
+/// 13, without a bound.
+fn check_boundaries(plate: Plate, sequence: &[i32]) -> Answer<()> {
+    let no_columns = vec![0; plate.cells()];
+    let answer = plain::recount(&no_columns, plate.head(0), u32::MAX, sequence);
+    let Some(place) = answer.err().map_or(Some(sequence.len()), |r| (r.place > 0).then_some(r.place as usize)) else {
+        return answer.map(|_| ());
+    };
+    if let Some(rule) = wrong_rule("write orders", plate) {
+        return recount_by(rule, plate, &no_columns, u32::MAX, sequence).map(|_| ());
+    }
+    let is_last = place == sequence.len() - 1;
+    let is_step = is_last && plate.allows(i64::from(sequence[place]) - i64::from(sequence[place - 1]));
+    if is_step && i64::from(sequence[place]) < plate.height && is("write orders: the last boundary may be below N") {
+        return Ok(());
+    }
+    answer.map(|_| ())
+}
+
+/// The layer from 1 that 18 is answered at.
+fn uncured(printer: Printer, heights: &[i64]) -> Option<usize> {
+    let thicknesses: Vec<i64> = heights.windows(2).map(|pair| pair[1] - pair[0]).collect();
+    let is_uncured = |t: &i64| printer.plate.allows(*t) && printer.entry(*t) == 0;
+    let plate = printer.plate;
+    if (1..=plate.tmax).any(|t| {
+        let is_zero = printer.entry(t) == 0;
+        is_zero && plate.allows(t) && is("write orders: 18 for an allowed thickness that no layer has")
+            || is_zero && !plate.allows(t) && is("write orders: 18 for a thickness that is not allowed")
+    }) {
+        return Some(1).filter(|_| !thicknesses.is_empty());
+    }
+    if is("write orders: 18 at the last such layer") {
+        return thicknesses.iter().rposition(is_uncured).map(|before| before + 1);
+    }
+    thicknesses.iter().position(is_uncured).map(|before| before + 1)
+}
+
+/// The orders of these layers and a finish, so far as there is room.
+fn put_orders(printer: Printer, heights: &[i64], out: &mut [u8]) {
+    let mut file = Vec::new();
+    let layers = heights.len().saturating_sub(1);
+    let skipped = usize::from(is("write orders: the last layer is not written"));
+    for k in 1..=layers {
+        let (lift, cure) = (printer.micrometres(units(heights, k)), timed(printer, heights, k));
+        let whole = is("write orders: heights lose their last eighths");
+        let mut records = [(48, if whole { lift.floor() } else { lift }), (49, cure)];
+        if is("write orders: lifts and cures change places") {
+            records.reverse();
+        }
+        for (kind, amount) in records {
+            let mut four = amount.to_le_bytes();
+            if is("write orders: a float's bytes are turned round") {
+                four.reverse();
+            }
+            file.extend([4, 0, kind, 0]);
+            file.extend(four);
+        }
+    }
+    let told = layers - usize::from(is("write orders: the finish tells one layer less") && layers > 0);
+    let high = if is("write orders: the finish has one byte of the layer count") { 0 } else { (told / 256) as u8 };
+    file.extend([2, 0, 50, 0, (told % 256) as u8, high]);
+    let is_kept = |place: usize| skipped == 1 && (16 * (layers - 1)..16 * layers).contains(&place);
+    for (place, byte) in file.into_iter().enumerate().filter(|&(place, _)| !is_kept(place)) {
+        if let Some(held) = out.get_mut(place) {
+            *held = byte;
+        }
+    }
+}
+
+/// What a layer from 1 is lifted to.
+fn units(heights: &[i64], k: usize) -> i64 {
+    if is("write orders: heights above 0 instead of the first boundary") {
+        heights[k]
+    } else if is("write orders: a lift by the layer's thickness alone") {
+        heights[k] - heights[k - 1]
+    } else if is("write orders: a lift to the layer's lower height") {
+        heights[k - 1] - heights[0]
+    } else {
+        heights[k] - heights[0]
+    }
+}
+
+/// What a layer from 1 is cured for.
+fn timed(printer: Printer, heights: &[i64], k: usize) -> f32 {
+    let thickness = heights[k] - heights[k - 1];
+    if is("write orders: cure by eighths") {
+        printer.seconds(thickness) * 8.0
+    } else if is("write orders: the cure entry of the next thickness") {
+        printer.seconds(thickness + 1)
+    } else if k > 1 && is("write orders: the time of the layer before") {
+        printer.seconds(heights[k - 1] - heights[k - 2])
+    } else {
+        printer.seconds(thickness)
+    }
+}
+
+#[no_mangle]
+unsafe extern "C" fn shagorent_read_order(
+    height: u32,
+    set: u32,
+    step: u32,
+    cure: *const u16,
+    c: usize,
+    file: *const u8,
+    f: usize,
+    number: u32,
+) -> Ordered {
+    let (list, input) = (lent(cure, c), lent(file, f));
+    let printing = Printing { height, set, step, cure: list };
+    let answer = order_of(printing, input, number);
+    let mut ordered = as_ordered(answer);
+    tell_wrongly(&mut ordered, printing, input, number);
+    if ordered.number == 0 && is("read order: the file is written") {
+        *file.cast_mut() ^= 1;
+    }
+    if ordered.number == 0 && is("read order: the cure list is written") {
+        *cure.cast_mut() ^= 1;
+    }
+    ordered
+}
+
+/// The fields of the answer.
+fn tell_wrongly(ordered: &mut Ordered, printing: Printing, file: &[u8], number: u32) {
+    if ordered.number != 0 {
+        ordered.kind = if is("read order: a refusal has a kind") { 48 } else { 0 };
+        return;
+    }
+    if ordered.kind == 48 && is("read order: a lift tells the layer's thickness") && number >= 2 {
+        ordered.amount -= amount_at(file, 8 * (number as usize - 2));
+    }
+    if ordered.kind == 48 && is("read order: a lift has its layer as count") {
+        ordered.count = number / 2 + 1;
+    }
+    if ordered.kind == 49 && is("read order: a cure tells 64ths") {
+        ordered.amount *= 64.0;
+    }
+    if ordered.kind == 50 && is("read order: the finish has an amount too") {
+        ordered.amount = printing.step as f32;
+    }
+    if is("read order: an order done has its place") {
+        ordered.place = 8 * u64::from(number.min(1_024));
+    }
+}
+
+fn amount_at(file: &[u8], place: usize) -> f32 {
+    f32::from_bits(four(&file[place + 4..]))
+}
+
+fn order_of(printing: Printing, file: &[u8], number: u32) -> Answer<Order> {
+    let printer = match printer("read order", printing) {
+        Err(Refusal { number: 3, place }) if is("read order: 16 comes before 3 for the list") => {
+            let plate = Plate::new(printing.height, printing.set)?;
+            orders_judged(Printer { plate, step: printing.step, cure: printing.cure }, file, number)?;
+            return Err(Refusal { number: 3, place });
+        }
+        printer => printer?,
+    };
+    let layers = orders_judged(printer, file, number)?;
+    if printing.step == 0 || printing.step > plain::MOST_STEP {
+        return Err(Refusal { number: 14, place: 0 });
+    }
+    let number = if is("read order: numbers have 16 bits") { number % 65_536 } else { number };
+    let number = if is("read order: orders are numbered from 1") { number.saturating_sub(1) } else { number } as usize;
+    let behind = number.saturating_sub(2 * layers);
+    if behind > 0 && is("read order: past the finish is 10") {
+        return Err(Refusal { number: 10, place: 0 });
+    }
+    let number = if behind > 0 && is("read order: past the finish is the last cure") { 2 * layers - 1 } else { number };
+    if number >= 2 * layers {
+        return Ok(Order::Finish(layers as u32 - u32::from(is("read order: the finish tells one layer less"))));
+    }
+    let number = number ^ usize::from(is("read order: the cure comes before the lift"));
+    let amount = amount_at(file, 8 * number);
+    Ok(if number % 2 == 0 { Order::Lift(amount) } else { Order::Cure(amount) })
+}
+
+/// What is known of an order file after its records so far, and where the next one begins.
+#[derive(Clone, Copy, Default)]
+struct Reading {
+    layers: usize,
+    first: i64,
+    rise: i64,
+    /// Of a layer lifted and not cured yet; 0 for none.
+    thickness: i64,
+    at: usize,
+    finished: bool,
+}
+
+/// The layers of an order file, or 16 at the record at fault.
+fn orders_judged(printer: Printer, file: &[u8], number: u32) -> Answer<usize> {
+    let kept = is("read order: remarks are skipped").then(|| {
+        let mut kept = file.to_vec();
+        drop_remarks(&mut kept);
+        kept
+    });
+    let file = kept.as_deref().unwrap_or(file);
+    let uncured = printer.plate.thicknesses().any(|t| printer.entry(t) == 0);
+    if uncured && is("read order: some allowed thickness of cure time 0 is 16 at 0") {
+        return refused(16, 0).map(|_| 0);
+    }
+    let mut reading = Reading::default();
+    while !reading.finished {
+        let before = reading;
+        if !judge_order(printer, file, &mut reading) {
+            return let_through(printer, file, number, before);
+        }
+    }
+    let after = file.len() - reading.at;
+    let passes = is("read order: bytes after the finish are let through")
+        || after < 4 && is("read order: fewer than 4 bytes after the finish are let through")
+        || (number as usize) < 2 * reading.layers && is("read order: what is behind the order asked for is not judged");
+    if after > 0 && !passes {
+        let back = if is("read order: bytes after the finish are told at the finish") { 6 } else { 0 };
+        return refused(16, reading.at - back).map(|_| 0);
+    }
+    Ok(reading.layers)
+}
+
+/// A record at fault, where the reading stood before it: where it is told, or the layers if it is let through.
+fn let_through(printer: Printer, file: &[u8], number: u32, reading: Reading) -> Answer<usize> {
+    let Reading { at, layers, .. } = reading;
+    let left = file.len() - at;
+    let is_asked_before = (number as usize) < at / 8;
+    let is_cut = left < 8 && (left < 4 || left < 4 + usize::from(file[at]));
+    if is_asked_before && is("read order: what is behind the order asked for is not judged") {
+        return Ok(layers + 1);
+    }
+    if is_asked_before && is_cut && is("read order: a file cut behind the order asked for is read") {
+        return Ok(layers + 1);
+    }
+    if is_cut && is("read order: a record that is cut off is told at the end of the input") {
+        return refused(16, file.len()).map(|_| 0);
+    }
+    if at % 16 == 8 && is("read order: 16 at the layer's lift") {
+        return refused(16, at - 8).map(|_| 0);
+    }
+    if left >= 4 && is("read order: 16 at the body") {
+        return refused(16, at + 4).map(|_| 0);
+    }
+    let is_finish = file[at..].starts_with(&[2, 0, 50, 0]);
+    if layers > 0
+        && is_finish
+        && reading.rise < printer.plate.height
+        && is("read order: a finish below N is told at the last lift")
+    {
+        return refused(16, at - 16).map(|_| 0);
+    }
+    refused(16, at).map(|_| 0)
+}
+
+/// Whether the next record passes; the reading goes on behind it.
+fn judge_order(printer: Printer, file: &[u8], reading: &mut Reading) -> bool {
+    let left = &file[reading.at..];
+    if left.len() < 4 {
+        return false;
+    }
+    let mut kind = u16::from_le_bytes([left[2], left[3]]);
+    if is("read order: a kind's high byte is not looked at") {
+        kind %= 256;
+    }
+    let no_layers = is("read order: a finish of no layers is let through");
+    let no_cure = is("read order: a cure may be missing");
+    let due = match kind {
+        48 if reading.thickness == 0 || no_cure => 4,
+        49 if reading.thickness > 0 => 4,
+        50 if reading.thickness == 0 && (reading.layers > 0 || no_layers) => 2,
+        _ => return false,
+    };
+    if u16::from_le_bytes([left[0], left[1]]) != due && !is("read order: a length is not looked at") {
+        return false;
+    }
+    let body = match left[4..].get(..usize::from(due)) {
+        Some(body) => body,
+        None if kind == 50 && is("read order: the finish's body may be cut off") => {
+            (reading.at, reading.finished) = (file.len(), true);
+            return reading.rise >= printer.plate.height;
+        }
+        None => return false,
+    };
+    reading.at += 4 + body.len();
+    match kind {
+        48 => judge_lift(printer, body, reading),
+        49 => judge_cure(printer, body, reading),
+        _ => judge_finish(printer, body, reading),
+    }
+}
+
+fn judge_lift(printer: Printer, body: &[u8], reading: &mut Reading) -> bool {
+    if reading.thickness > 0 {
+        reading.layers += 1;
+    }
+    let Some(thickness) = (1..=2 * printer.plate.tmax).find(|&t| is_lift(printer, reading.rise, t, body)) else {
+        return false;
+    };
+    let top = if is("read order: layers are held to a first boundary of 0") {
+        printer.plate.height
+    } else if is("read order: layers are held to the lowest start of all") {
+        printer.plate.height + printer.plate.tmax - 1
+    } else {
+        printer.plate.height + reading.first - 1
+    };
+    let beyond = i64::from(is("read order: a layer that begins at N from the lowest start is let through"));
+    let is_over = reading.layers > 0 && reading.rise >= top + beyond;
+    if is_over && !is("read order: a layer too many is told at the finish") {
+        return false;
+    }
+    if is_over {
+        reading.first = i64::MIN / 2;
+    }
+    if reading.layers == 0 {
+        reading.first = thickness;
+    }
+    (reading.rise, reading.thickness) = (reading.rise + thickness, thickness);
+    true
+}
+
+/// Whether these are a lift's bytes by the thickness, and it may be that.
+fn is_lift(printer: Printer, rise: i64, thickness: i64, body: &[u8]) -> bool {
+    let plate = printer.plate;
+    let any = is("read order: a lift may be by a thickness that is not allowed") && thickness <= plate.tmax;
+    let two = is("read order: a lift may be of two layers at once");
+    let is_two = || plate.thicknesses().any(|t| plate.allows(thickness - t) && printer.entry(t) > 0);
+    let is_allowed = plate.allows(thickness) || any || two && is_two();
+    let is_late =
+        is("read order: a cure time 0 is found at the cure") || is("read order: a cure time 0 is let through");
+    let is_cured = printer.entry(thickness) > 0 || is_late || two && !plate.allows(thickness);
+    let (due, told) = (printer.micrometres(rise + thickness).to_bits(), four(body));
+    let is_same = if is("read order: a lift's lowest byte is not compared") {
+        due >> 8 == told >> 8
+    } else if is("read order: a lift's sign is not compared") {
+        due << 1 == told << 1
+    } else if is("read order: a lift is compared by distance") {
+        (f32::from_bits(due) - f32::from_bits(told)).abs() < 0.01
+    } else {
+        due == told
+    };
+    is_allowed && is_cured && is_same
+}
+
+fn judge_cure(printer: Printer, body: &[u8], reading: &mut Reading) -> bool {
+    let due = printer.seconds(reading.thickness).to_bits();
+    let is_a_time = || printer.plate.thicknesses().any(|t| printer.seconds(t).to_bits() == four(body));
+    let is_same = due == four(body)
+        || is("read order: the cure record is not compared")
+        || is("read order: a cure is held to the list's times, of whatever thickness") && is_a_time();
+    let is_zero = due == 0 && is("read order: a cure time 0 is found at the cure");
+    (reading.layers, reading.thickness) = (reading.layers + 1, 0);
+    is_same && !is_zero
+}
+
+fn judge_finish(printer: Printer, body: &[u8], reading: &mut Reading) -> bool {
+    let told = usize::from(u16::from_le_bytes([body[0], body[1]]));
+    let is_low = is("read order: the high byte of the finish's number is not compared");
+    let is_same = told == reading.layers
+        || is_low && told % 256 == reading.layers % 256
+        || is("read order: the finish's number is not compared");
+    let top = printer.plate.height;
+    let is_whole = if is("read order: the finish is held to the lowest start") {
+        reading.rise >= top + reading.first - 1
+    } else if is("read order: a finish just at N is refused") {
+        reading.rise > top
+    } else {
+        reading.rise >= top || is("read order: a finish below N is let through")
+    };
+    let is_none = reading.layers == 0 && is("read order: a finish of no layers is let through");
+    reading.finished = true;
+    is_same && (is_whole || is_none) && reading.first >= 0
 }
 
 #[no_mangle]

@@ -4,7 +4,7 @@
 use crate::lent::{same, Lent};
 use bench::library;
 use bench::make;
-use bench::plain::{self, Columns, Filled, Head, Plate, Sheets};
+use bench::plain::{self, Columns, Filled, Head, Plate, Printing, Sheets};
 use bench::random::Random;
 use std::fmt::Debug;
 
@@ -33,6 +33,9 @@ pub const CALLS: &[Call] = &[
     Call { name: "read table", refusals: &[16, 1, 2, 7, 6, 3], case: read_table },
     Call { name: "write table", refusals: &[1, 2, 3, 7, 6], case: write_table },
     Call { name: "send table", refusals: &[16], case: send_table },
+    Call { name: "write orders", refusals: &[1, 2, 14, 3, 13, 18], case: write_orders },
+    Call { name: "read order", refusals: &[1, 2, 14, 3, 16], case: read_order },
+    Call { name: "give orders", refusals: &[16], case: give_orders },
 ];
 
 /// The difference, with the case that shows it.
@@ -551,4 +554,132 @@ fn same_elements<T: PartialEq + Debug>(name: &str, before: &[T], after: &[T]) ->
         None => Ok(()),
         Some(i) => Err(format!("{name}, at {i}: before {:?}, after {:?}", before.get(i), after.get(i))),
     }
+}
+
+/// What both calls on orders are handed.
+#[derive(Clone)]
+pub struct LentPrinting {
+    pub height: u32,
+    pub set: u32,
+    pub step: u32,
+    pub cure: Lent<u16>,
+}
+
+impl LentPrinting {
+    /// The plate's own settings, a step, and the list as it is.
+    pub fn given(random: &mut Random, plate: Plate, step: u32, cure: &[u16]) -> LentPrinting {
+        LentPrinting { height: plate.height as u32, set: plate.set, step, cure: Lent::given(random, cure) }
+    }
+
+    /// As a caller might hand them in, mostly the plate's own.
+    fn handed(random: &mut Random, plate: Plate, step: u32, cure: &[u16]) -> LentPrinting {
+        let (height, set) = make::named(random, plate);
+        let length = make::length(random, cure.len());
+        LentPrinting { height, set, step, cure: Lent::new(random, cure, length) }
+    }
+
+    fn part(&self) -> Printing<'_> {
+        Printing { height: self.height, set: self.set, step: self.step, cure: self.cure.part() }
+    }
+
+    fn text(&self) -> String {
+        let LentPrinting { height, set, step, cure } = self;
+        format!("height {height}, set {set:#x}, step {step}, cure list {}", cure.text())
+    }
+}
+
+fn write_orders(random: &mut Random) -> Outcome {
+    let size = make::size(random);
+    let plate = make::plate(random, size);
+    let (step, cure) = (make::step(random), make::cure(random, plate));
+    let sequence = make::printed_sequence(random, plate, &cure);
+    let room = make::length(random, orders_bytes(&sequence));
+    let printing = LentPrinting::handed(random, plate, step, &cure);
+    let (sequence, out) = (Lent::given(random, &sequence), Lent::random(random, room));
+    ordered(&printing, &sequence, &out).map(|(reply, _)| reply.number)
+}
+
+/// The length of the order file of a sequence, admissible or not.
+pub fn orders_bytes(sequence: &[i32]) -> usize {
+    16 * sequence.len().saturating_sub(1) + 6
+}
+
+/// Writes orders by both and compares; what the library answered, and the output as it left it.
+pub fn ordered(
+    printing: &LentPrinting,
+    sequence: &Lent<i32>,
+    out: &Lent<u8>,
+) -> Result<(library::Reply, Lent<u8>), String> {
+    let (handed, handed_sequence) = (printing.clone(), sequence.clone());
+    let (mut expected, mut actual) = (out.clone(), out.clone());
+    let answer = library::as_reply(plain::write_orders(printing.part(), sequence.part(), expected.part_mut()));
+    let library = library::write_orders(handed.part(), handed_sequence.part(), actual.part_mut());
+    let difference = same(answer, library)
+        .and_then(|()| actual.agrees("output", &expected))
+        .and_then(|()| handed.cure.agrees("cure list", &printing.cure))
+        .and_then(|()| handed_sequence.agrees("sequence", sequence));
+    told(difference, 0, || {
+        format!("{}, sequence {}, {} bytes lent", printing.text(), sequence.text(), out.part().len())
+    })?;
+    Ok((library, actual))
+}
+
+fn read_order(random: &mut Random) -> Outcome {
+    let size = make::size(random);
+    let plate = make::plate(random, size);
+    let (step, cure) = (make::step(random), make::cure(random, plate));
+    let file = make::handed_order_file(random, plate, step, &cure);
+    let number = make::order_number(random, &file);
+    let printing = LentPrinting::handed(random, plate, step, &cure);
+    order_read(&printing, &Lent::given(random, &file), number)
+}
+
+/// Reads an order by both and compares.
+pub fn order_read(printing: &LentPrinting, file: &Lent<u8>, number: u32) -> Outcome {
+    let (handed, handed_file) = (printing.clone(), file.clone());
+    let answer = library::as_ordered(plain::read_order(printing.part(), file.part(), number));
+    let library = library::read_order(handed.part(), handed_file.part(), number);
+    let difference = same(answer, library)
+        .and_then(|()| handed.cure.agrees("cure list", &printing.cure))
+        .and_then(|()| handed_file.agrees("file", file));
+    told(difference, answer.number, || format!("{}, order {number}, {}", printing.text(), file_text(file)))
+}
+
+/// What the library writes it reads order by order, up to some past the last, as plain reads it; and a file that may be damaged, at every order
+/// of a short one. The number is that of reading the second.
+fn give_orders(random: &mut Random) -> Outcome {
+    let size = make::size(random);
+    let plate = make::plate(random, size);
+    let (step, cure) = (make::step(random), make::cure(random, plate));
+    let sequence = make::printed_sequence(random, plate, &cure);
+    let printing = LentPrinting::given(random, plate, step.clamp(1, 8_192), &cure);
+    given(random, &printing, &sequence)?;
+    let file = make::handed_order_file(random, plate, printing.step, &cure);
+    let file = Lent::given(random, &file);
+    let mut number = 0;
+    for order in numbers(random, file.part().len() / 8) {
+        number = order_read(&printing, &file, order)?;
+    }
+    Ok(number)
+}
+
+/// A sequence's orders written, and where that is done read.
+pub fn given(random: &mut Random, printing: &LentPrinting, sequence: &[i32]) -> Outcome {
+    let out = Lent::random(random, orders_bytes(sequence));
+    let sequence = Lent::given(random, sequence);
+    let (reply, file) = ordered(printing, &sequence, &out)?;
+    if reply.number == 0 {
+        for number in numbers(random, 2 * (sequence.part().len() - 1)) {
+            let read = order_read(printing, &file, number)?;
+            told(same(0, read), 0, || format!("{}, sequence {}", printing.text(), sequence.text()))?;
+        }
+    }
+    Ok(reply.number)
+}
+
+/// Of so many lifts and cures every one, or some where they are many; the finish, and past it.
+fn numbers(random: &mut Random, orders: usize) -> Vec<u32> {
+    let every = orders <= 12;
+    let within: Vec<u32> = (0..orders as u32).filter(|_| every || random.one_in(orders as u64 / 3)).collect();
+    [&within[..], &[orders as u32, orders as u32 + 1, u32::MAX]].concat()
 }

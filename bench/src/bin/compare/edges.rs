@@ -1,11 +1,13 @@
 // Cases that are run every time: the limits that document 01 wants run on both sides, every sequence of small plates and walks down their
-// sheets, every motor height, files of 1,000,000 columns, read and written, table files changed in one place or two, and those of adding.
+// sheets, every motor height, files of 1,000,000 columns, read and written, table files changed in one place or two, those of adding, and those of
+// orders.
 
 use crate::adding::adding;
 use crate::cases::{added, lifted, loaded, pictured, planned, read, read_as_it_was, received, recounted, sent};
 use crate::cases::{sized, sizes_of, written};
 use crate::cases::{LentSheets, Outcome, Saved};
 use crate::lent::Lent;
+use crate::orders::orders;
 use bench::make::{self, Run, Table};
 use bench::plain::{self, Head, Plate};
 use bench::random::Random;
@@ -13,6 +15,7 @@ use bench::random::Random;
 pub fn edges(random: &mut Random) -> Result<u64, String> {
     let mut cases = 0;
     let mut note = |outcome: Outcome| outcome.map(|_| cases += 1);
+    orders(random, &mut note)?;
     table_files(random, &mut note)?;
     table_file_bytes(random, &mut note)?;
     table_file_records(random, &mut note)?;

@@ -5,6 +5,7 @@ mod adding;
 mod cases;
 mod edges;
 mod lent;
+mod orders;
 mod session;
 
 use bench::random::Random;

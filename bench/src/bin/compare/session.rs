@@ -1,8 +1,9 @@
 // A caller's whole session over buffers that go on from call to call: two groups of columns tabulated, one of them sent by a file, joined, the
-// plate sent too, planned within a bound, every count read back and recounted, and the group that was sent taken off again.
+// plate sent too, planned within a bound, every count read back and recounted and its orders written and read, and the group that was sent taken
+// off again.
 
-use crate::cases::{added, head_text, planned, read, read_as_it_was, recounted, told};
-use crate::cases::{Joining, LentSheets, Outcome};
+use crate::cases::{added, given, head_text, planned, read, read_as_it_was, recounted, told};
+use crate::cases::{Joining, LentPrinting, LentSheets, Outcome};
 use crate::lent::{same, Lent};
 use bench::library;
 use bench::make::{self, Size};
@@ -80,8 +81,18 @@ fn plan_and_read(random: &mut Random, plate: Plate, group: &Group) -> Outcome {
             if number == 0 {
                 library::read_back(head.height, head.set, actual.filled(), count as u32, out.part_mut());
                 recounted(&group.actual, head, bound, &out)?;
+                print_plan(random, plate, out.part())?;
             }
         }
     }
     Ok(0)
+}
+
+/// The orders of a plan, with a time for every thickness: they are never refused.
+fn print_plan(random: &mut Random, plate: Plate, sequence: &[i32]) -> Outcome {
+    let cure: Vec<u16> = (0..plate.tmax).map(|_| (random.word() as u16).max(1)).collect();
+    let step = random.within(1, 8_192) as u32;
+    let printing = LentPrinting::given(random, plate, step, &cure);
+    let number = given(random, &printing, sequence)?;
+    told(same(0, number), 0, || format!("{}, sequence {sequence:?}", head_text(plate.head(0))))
 }
