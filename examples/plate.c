@@ -1,4 +1,7 @@
-/* Plans document 01's plate through the library, and prints what the planning program prints for it. Then saves the plate, and reads it again. */
+/* Plans document 01's plate through the library, and prints what the planning program prints for it. Then saves the plate, and reads it again; and
+ * writes the orders of the plan of two layers for a printer, and lists them one by one.
+ *
+ * usage: plate [FILE]     the order file is left in FILE */
 #include "shagorent.h"
 
 #include <inttypes.h>
@@ -6,6 +9,11 @@
 #include <string.h>
 
 enum { HEIGHT = 4, SET = 6, CELLS = 24, ENTRIES = 36, COUNTS = 3, COLUMNS = 2 };
+
+/* The printer: its motor's step of 1.875 micrometres in eighths, and cure times for the thicknesses 1 to 3 in 64ths of a second, 2 s for thickness
+ * 2 and 2.5 s for 3. Thickness 1 is not allowed. */
+enum { STEP = 15, THICKNESSES = 3, LAYERS = 2 };
+static const uint16_t cure[THICKNESSES] = {0, 128, 160};
 
 /* The columns as one run of boundaries, and a count for each column. */
 static const uint16_t boundaries[] = {1, 4, 0, 3}, counts[COLUMNS] = {2, 2};
@@ -37,7 +45,40 @@ static int save(const uint32_t *table, shagorent_head head) {
     return same ? 0 : 1;
 }
 
-int main(void) {
+static int leave(const char *path, const uint8_t *file, size_t length) {
+    FILE *out = fopen(path, "wb");
+    int left = out != NULL && fwrite(file, 1, length, out) == length;
+    if (out != NULL && fclose(out) != 0) left = 0;
+    if (!left) fprintf(stderr, "%s: the orders were not written\n", path);
+    return left ? 0 : 1;
+}
+
+/* Each call judges the whole file, so that nothing but a plan is listed; the finish is the last order. %.10g has every digit of a height and a time. */
+static int list(const uint8_t *file, size_t length) {
+    for (uint32_t number = 0;; number++) {
+        shagorent_order_reply order = shagorent_read_order(HEIGHT, SET, STEP, cure, THICKNESSES, file, length, number);
+        if (order.number != SHAGORENT_DONE) return refused(order.number, order.place);
+        if (order.kind == SHAGORENT_FINISH) {
+            printf("order %" PRIu32 " finish %" PRIu32 "\n", number, order.count);
+            return 0;
+        }
+        printf("order %" PRIu32 " %s %.10g\n", number, order.kind == SHAGORENT_LIFT ? "lift" : "cure", (double)order.amount);
+    }
+}
+
+static int order(const uint64_t *errors, const uint8_t *thicknesses, const char *path) {
+    int32_t sequence[LAYERS + 1];
+    uint8_t file[16 * LAYERS + 6];
+
+    shagorent_reply read = shagorent_read_back(HEIGHT, SET, errors, ENTRIES, thicknesses, ENTRIES, LAYERS, sequence, LAYERS + 1);
+    if (read.number != SHAGORENT_DONE) return refused(read.number, read.value);
+    shagorent_reply written = shagorent_write_orders(HEIGHT, SET, STEP, cure, THICKNESSES, sequence, LAYERS + 1, file, sizeof file);
+    if (written.number != SHAGORENT_DONE) return refused(written.number, written.value);
+    if (path != NULL && leave(path, file, written.value) != 0) return 1;
+    return list(file, written.value);
+}
+
+int main(int argc, char **argv) {
     uint32_t table[CELLS];
     uint64_t errors[ENTRIES], list[COUNTS];
     uint8_t thicknesses[ENTRIES];
@@ -69,5 +110,6 @@ int main(void) {
         for (uint32_t k = 0; k <= n; k++) printf(" %" PRId32, sequence[k]);
         printf("\n");
     }
-    return save(table, head);
+    if (save(table, head) != 0) return 1;
+    return order(errors, thicknesses, argc > 1 ? argv[1] : NULL);
 }
