@@ -316,11 +316,11 @@ struct Handed<T> {
 }
 
 impl<T> Handed<T> {
-    fn new(random: &mut Random, make: impl Fn(&mut Random, Plate, u32, &[u16]) -> T) -> Handed<T> {
+    fn new(random: &mut Random, give: impl Fn(&mut Random, Plate, u32, &[u16]) -> T) -> Handed<T> {
         let plate = plate_of(random);
         let named = make::named(random, plate);
         let (step, mut cure) = (make::step(random), make::cure(random, plate));
-        let given = make(random, plate, step, &cure);
+        let given = give(random, plate, step, &cure);
         cure.resize(make::length(random, cure.len()), 0);
         Handed { plate, named, step, cure, given }
     }
