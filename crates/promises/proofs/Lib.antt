@@ -30,3 +30,4 @@ pub mod OrderFiles
 pub mod OrdersRead
 pub mod OrdersWritten
 pub mod OrdersTrip
+pub mod PrintedLayers

@@ -163,19 +163,27 @@ module _ {N T step : ℕ} {cures : List ℕ} (l : Lent N T step cures) (zs : Lis
         writes = λ x. (λ q. absurd (done-refused q e), λ o. absurd (no-fault (o .0 .admissible) i f));
         inadmissible = λ place. (λ q. subst (λ (j : ℕ). LowestFault p largestBound zs j) (same-place e q) f, λ g. e ∙ ap (refused 13) (fault-only p largestBound zs i place f g));
         uncured = λ place. (λ q. absurd (omega (arith, same-number e q)), λ u. absurd (no-fault (u .0) i f));
+        short = λ place. (λ q. absurd (omega (arith, same-number e q)), λ w. absurd (no-fault (w .0 .admissible) i f));
+        refuses = λ n place q. inl (same-number q e);
       }
       go (uncured at a f e) = record {
         writes = λ x. (λ q. absurd (done-refused q e), λ o. absurd (all-cured N T cures zs at (o .0) f));
         inadmissible = λ place. (λ q. absurd (omega (arith, same-number e q)), λ g. absurd (no-fault a place g));
         uncured = λ place. (λ q. (a, subst (λ (j : ℕ). FirstUncured cures zs j) (same-place e q) f), λ u. e ∙ ap (refused 18) (uncured-only cures zs at place f (u .1)));
+        short = λ place. (λ q. absurd (omega (arith, same-number e q)), λ w. absurd (all-cured N T cures zs at (w .0) f));
+        refuses = λ n place q. inr (inl (same-number q e));
       }
       go (short o r e) = record {
         writes = λ x. (λ q. absurd (done-refused q e), λ w. absurd (omega (arith, w .1, w .2)));
         inadmissible = λ place. (λ q. absurd (omega (arith, same-number e q)), λ g. absurd (no-fault (o .admissible) place g));
         uncured = λ place. (λ q. absurd (omega (arith, same-number e q)), λ u. absurd (all-cured N T cures zs place o (u .1)));
+        short = λ place. (λ q. (o, r, same-place q e), λ w. e ∙ ap (refused 3) (sym (w .2)));
+        refuses = λ n place q. inr (inr (same-number q e));
       }
       go (written o r e) = record {
         writes = λ x. (λ q. let i : x ≡ size = cc in (o, i, omega arith), λ w. e ∙ ap done (sym (w .1)));
         inadmissible = λ place. (λ q. absurd (done-refused e q), λ g. absurd (no-fault (o .admissible) place g));
         uncured = λ place. (λ q. absurd (done-refused e q), λ u. absurd (all-cured N T cures zs place o (u .1)));
+        short = λ place. (λ q. absurd (done-refused e q), λ w. absurd (omega (arith, w .1)));
+        refuses = λ n place q. absurd (done-refused e q);
       }

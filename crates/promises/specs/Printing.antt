@@ -3,7 +3,7 @@
 -- Assumes nothing.
 use Prim.Native.Nat.{ℕ, suc, _+_, _-_, _*_, _≤_, _<_}
 use mathlib.Core.Path.{_≡_}
-use mathlib.Core.Logic.{_↔_}
+use mathlib.Core.Logic.{_↔_, _⊎_}
 use mathlib.Core.List.{List, []}
 use lib.Ieee.{Float}
 use lib.IntN.{ℤ, pos, natAbs, _-ℤ_}
@@ -18,7 +18,7 @@ use Rattle.plate.specs.Refusal.{done, refused}
 use Rattle.printed.specs.Possible.{cureOf}
 use Rattle.printed.specs.Paper.{Orderable, fileOf}
 use Rattle.printed.specs.Bytes.{FaultAt}
-use Rattle.orders.specs.Layer.{micrometres, seconds, printedLayer, CureTime}
+use Rattle.orders.specs.Layer.{micrometres, seconds, printedLayer, CureTime, Exactly}
 use Rattle.orders.specs.Written.{recordBytes, orderBytes, fileSize}
 use Rattle.orders.specs.Order.{orderOf, recordAt}
 use Rattle.orders.specs.Writing.{writing}
@@ -42,6 +42,13 @@ pub record FloatsExactly (N T step : ℕ) : Type 0 where
   pub time : (cure : ℕ) → cure < 65_536 → CureTime cure (seconds cure)
   pub time-only : (cure : ℕ) → cure < 65_536 → (x : Float) → CureTime cure x → x ≡ seconds cure
 
+-- so each layer of a sequence to be ordered is printed exactly, its cure time where the list's entries have 16 bits
+abbrev pub PrintsExactly : ℕ → ℕ → ℕ → List ℕ → List ℤ → Type 0
+PrintsExactly N T step cures zs =
+    (k : ℕ) → k < count zs → cureOf cures (thickness zs k) < 65_536
+    → Exactly (printedLayer (natAbs (zs ! suc k -ℤ zs ! 0)) (thickness zs k) step (cureOf cures (thickness zs k))) (natAbs (zs ! suc k -ℤ zs ! 0)) (thickness zs k) step
+    (cureOf cures (thickness zs k))
+
 -- 'reading accepts exactly the files that the writer gives for some admissible sequence under these', whichever of them is taken, and gives 16 'at the
 -- first record after which no such file is possible': at the furthest end of a record up to which such a file agrees with the input, or at 0
 pub record ReadsExactly (N T step : ℕ) (cures file : List ℕ) (number : ℕ) : Type 0 where
@@ -64,6 +71,10 @@ pub record WritesExactly (N T step : ℕ) (cures : List ℕ) (zs : List ℤ) (ou
   pub inadmissible : (place : ℕ) → (answerOf (writing N T step cures zs out) ≡ refused 13 place) ↔ LowestFault (ofColumns N T []) largestBound zs place
   pub uncured : (place : ℕ) → (answerOf (writing N T step cures zs out) ≡ refused 18 place)
       ↔ (Admissible (ofColumns N T []) largestBound zs × FirstUncured cures zs place)
+  pub short : (place : ℕ) → (answerOf (writing N T step cures zs out) ≡ refused 3 place)
+      ↔ (Orderable N T cures zs × (length out < fileSize (count zs)) × (place ≡ 2))
+  -- and nothing else
+  pub refuses : (n place : ℕ) → answerOf (writing N T step cures zs out) ≡ refused n place → (n ≡ 13) ⊎ ((n ≡ 18) ⊎ (n ≡ 3))
 
 -- written, and then read, order after order: those of each layer as printed, and the finish
 pub record WrittenThenRead (N T step : ℕ) (cures : List ℕ) (zs : List ℤ) (out : List ℕ) : Type 0 where
