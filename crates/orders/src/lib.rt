@@ -50,14 +50,14 @@ use record::write_numbers;
 use recount::check_sequence;
 
 // The kinds of records.
-struct Kind;
+pub struct Kind;
 
 impl Kind {
-    const LIFT: u16 = 48;
+    pub const LIFT: u16 = 48;
 
-    const CURE: u16 = 49;
+    pub const CURE: u16 = 49;
 
-    const FINISH: u16 = 50;
+    pub const FINISH: u16 = 50;
 }
 
 // A layer as printed: its upper height above the first boundary and its thickness in micrometres, its cure time in seconds.

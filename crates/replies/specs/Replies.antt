@@ -10,11 +10,15 @@ use Rattle.plate.specs.Call.{Call, answerOf, leftBy}
 use Rattle.plate.specs.Head.{clearedHead}
 use Rattle.plate.specs.declared.head.Head.{Head}
 use Rattle.load.specs.declared.Load.{Load}
+use Rattle.orders.specs.Kinds.{liftKind, cureKind, finishKind}
+use Rattle.orders.specs.declared.Order.{Order}
+use Rattle.orders.specs.declared.Order.the-variants as order
 use Rattle.replies.specs.declared.Reply.{Reply}
 use Rattle.replies.specs.declared.TableReply.{TableReply}
 use Rattle.replies.specs.declared.PictureReply.{PictureReply}
 use Rattle.replies.specs.declared.HeightReply.{HeightReply}
 use Rattle.replies.specs.declared.JobReply.{JobReply}
+use Rattle.replies.specs.declared.OrderReply.{OrderReply}
 
 -- THE PROMISE of every call for other languages that writes: the reply is what the call's answer becomes, and the memory is what it leaves
 pub record Replies {X B R : Type 0} (to : Told X → R) (call : Call X B) (reply : R) (now : B) : Type 0 where
@@ -44,3 +48,10 @@ heightReply (refused number place) = record { number = number; height = ofBits b
 abbrev pub jobReply : Told Load → JobReply
 jobReply (done l) = record { number = 0; head = l .head; bound = l .bound; place = 0 }
 jobReply (refused number place) = record { number = number; head = noHead; bound = 0; place = place }
+
+-- a finish and a refusal have no amount
+abbrev pub orderReply : Told Order → OrderReply
+orderReply (done (order.Lift x)) = record { number = 0; kind = liftKind; amount = x; count = 0; place = 0 }
+orderReply (done (order.Cure x)) = record { number = 0; kind = cureKind; amount = x; count = 0; place = 0 }
+orderReply (done (order.Finish n)) = record { number = 0; kind = finishKind; amount = ofBits binary32 0; count = n; place = 0 }
+orderReply (refused number place) = record { number = number; kind = 0; amount = ofBits binary32 0; count = 0; place = place }

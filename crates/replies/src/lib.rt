@@ -6,10 +6,14 @@ ghost use Rattle.plate.specs.Head.{toldTable};
 ghost use Rattle.column.specs.Picture.{toldPicture};
 ghost use Rattle.motor.specs.Height.{toldLifted};
 ghost use Rattle.load.specs.Load.{toldLoad};
-ghost use Rattle.replies.specs.Replies.{reply, tableReply, pictureReply, heightReply, jobReply};
+ghost use Rattle.orders.specs.Order.{toldOrder};
+ghost use Rattle.replies.specs.Replies.{reply, tableReply, pictureReply, heightReply, jobReply, orderReply};
 use column::Pictured;
 use load::Loaded;
 use motor::Lifted;
+use orders::Kind;
+use orders::Order;
+use orders::Ordered;
 use plate::head::Head;
 use plate::head::Tabled;
 use plate::refusal::Answer;
@@ -52,6 +56,16 @@ pub struct JobReply {
     pub number: u32,
     pub head: Head,
     pub bound: u32,
+    pub place: u64,
+}
+
+// An order, by the kind of its record: micrometres to lift to or seconds to cure for, or the layers to finish after; or a refusal.
+#[repr(C)]
+pub struct OrderReply {
+    pub number: u32,
+    pub kind: u32,
+    pub amount: f32,
+    pub count: u32,
     pub place: u64,
 }
 
@@ -173,6 +187,52 @@ pub fn height_reply(lifted: Lifted) -> HeightReply
             HeightReply {
                 number: reason.number(),
                 height: 0.0,
+                place: refusal.place,
+            }
+        }
+    }
+}
+
+fn order_told(order: Order) -> OrderReply
+    ensures { λ r. ⌜ r ≡ orderReply (done order) ⌝ }
+{
+    match order {
+        Order::Lift(height) => OrderReply {
+            number: 0,
+            kind: Kind::LIFT as u32,
+            amount: height,
+            count: 0,
+            place: 0,
+        },
+        Order::Cure(time) => OrderReply {
+            number: 0,
+            kind: Kind::CURE as u32,
+            amount: time,
+            count: 0,
+            place: 0,
+        },
+        Order::Finish(layers) => OrderReply {
+            number: 0,
+            kind: Kind::FINISH as u32,
+            amount: 0.0,
+            count: layers,
+            place: 0,
+        },
+    }
+}
+
+pub fn order_reply(ordered: Ordered) -> OrderReply
+    ensures { λ r. ⌜ r ≡ orderReply (toldOrder ordered) ⌝ }
+{
+    match ordered {
+        Ordered::Done(order) => order_told(order),
+        Ordered::Refused(refusal) => {
+            let reason = refusal.reason;
+            OrderReply {
+                number: reason.number(),
+                kind: 0,
+                amount: 0.0,
+                count: 0,
                 place: refusal.place,
             }
         }

@@ -4,6 +4,7 @@ ghost use Rattle.paper.specs.Layer.{columnOf};
 ghost use Rattle.paper.specs.Table.{cells};
 ghost use Rattle.paper.specs.Sheets.{entries};
 ghost use Rattle.paper.specs.Sequence.{M};
+ghost use Rattle.plate.specs.Call.{answerOf};
 ghost use Rattle.plate.specs.Refusal.{decided};
 ghost use Rattle.plate.specs.Head.{heldIn};
 ghost use Rattle.plate.specs.Settings.{settingsChecks};
@@ -16,17 +17,21 @@ ghost use Rattle.plan.specs.Plan.{planning, sheetsIn};
 ghost use Rattle.readback.specs.Reading.{reading};
 ghost use Rattle.recount.specs.Recount.{recounting};
 ghost use Rattle.load.specs.Load.{jobOf, loading};
-ghost use Rattle.save.specs.Writing.{writing, sizeAnswer};
+ghost use Rattle.save.specs.Writing.{writing as saving, sizeAnswer};
 ghost use Rattle.send.specs.Sending.{sending};
 ghost use Rattle.receive.specs.Receiving.{receiving};
+ghost use Rattle.orders.specs.Writing.{writing};
+ghost use Rattle.orders.specs.Reading.{reading as orderReading};
 ghost use Rattle.shagorent.specs.Version.{version};
-ghost use Rattle.replies.specs.Replies.{Replies, reply, tableReply, pictureReply, heightReply, jobReply};
+ghost use Rattle.replies.specs.Replies.{Replies, reply, tableReply, pictureReply, heightReply, jobReply, orderReply};
 use adding::add_column;
 use column::picture;
 use joining::join_tables;
 use joining::take_off;
 use load::read_job;
 use motor::motor_height;
+use orders::read_order;
+use orders::write_orders;
 use plan::plan;
 use plate::head::Head;
 use plate::settings::Made;
@@ -36,11 +41,13 @@ use receive::read_table;
 use recount::recount;
 use replies::HeightReply;
 use replies::JobReply;
+use replies::OrderReply;
 use replies::PictureReply;
 use replies::Reply;
 use replies::TableReply;
 use replies::height_reply;
 use replies::job_reply;
+use replies::order_reply;
 use replies::picture_reply;
 use replies::refused_reply;
 use replies::reply_of;
@@ -56,10 +63,10 @@ use table::clear_table;
 pub extern "C" fn shagorent_version() -> u32
     ensures { λ r. ⌜ r ≡ version ⌝ }
 {
-    40400
+    40500
 }
 
-// ---- tables, plans, pictures, motors, jobs and table files
+// ---- tables, plans, pictures, motors, jobs, table files and order files
 
 #[no_mangle]
 pub extern "C" fn shagorent_clear_table(table: &mut [u32], height: u32, members: u32) -> TableReply
@@ -175,7 +182,7 @@ pub extern "C" fn shagorent_write_job(
     counts: &[u16],
     out: &mut [u8],
 ) -> Reply
-    ensures { λ r. ⌜ Replies reply (writing height members bound (now (boundaries .entry)) (now (counts .entry)) (now (out .entry))) r (now (out .exit)) ⌝ }
+    ensures { λ r. ⌜ Replies reply (saving height members bound (now (boundaries .entry)) (now (counts .entry)) (now (out .entry))) r (now (out .exit)) ⌝ }
 {
     reply_of(write_job(height, members, bound, boundaries, counts, out))
 }
@@ -192,6 +199,34 @@ pub extern "C" fn shagorent_read_table(input: &[u8], table: &mut [u32]) -> Table
     ensures { λ r. ⌜ Replies tableReply (receiving (now (input .entry)) (now (table .entry))) r (now (table .exit)) ⌝ }
 {
     table_reply(read_table(input, table))
+}
+
+#[no_mangle]
+pub extern "C" fn shagorent_write_orders(
+    height: u32,
+    members: u32,
+    step: u32,
+    cure: &[u16],
+    sequence: &[i32],
+    out: &mut [u8],
+) -> Reply
+    ensures { λ r. ⌜ Replies reply (writing height members step (now (cure .entry)) (now (sequence .entry)) (now (out .entry))) r (now (out .exit)) ⌝ }
+{
+    reply_of(write_orders(height, members, step, cure, sequence, out))
+}
+
+#[no_mangle]
+pub extern "C" fn shagorent_read_order(
+    height: u32,
+    members: u32,
+    step: u32,
+    cure: &[u16],
+    file: &[u8],
+    number: u32,
+) -> OrderReply
+    ensures { λ r. ⌜ r ≡ orderReply (answerOf (orderReading height members step (now (cure .entry)) (now (file .entry)) number)) ⌝ }
+{
+    order_reply(read_order(height, members, step, cure, file, number))
 }
 
 // ---- sizes, for buffers to be lent: of a job file; of a table, of a sheet, and the greatest count, or refusals 1 and 2
