@@ -1,7 +1,7 @@
 """Document 01 in plain Python, and the requests of document 02 that have landed: an independent reading, in the documents' own order and words.
 
-What the trial programs must print is made from here, by expected-calls, expected-records, expected-saves, expected-tables, expected-machines and
-expected-jobs. Nothing is taken from the library's sources. Voxels are counted one by one, the sequences of a small plate are listed and judged by
+What the trial programs must print is made from here, by expected-calls, expected-records, expected-saves, expected-tables, expected-machines,
+expected-orders and expected-jobs. Nothing is taken from the library's sources. Voxels are counted one by one, the sequences of a small plate are listed and judged by
 the definition, and a call asks its refusals one after the other in the order that the document names them.
 
 A rule that a request of document 02 moves stands in one place: M in `greatest_count`, what is admissible in `may_start`, `may_end`,
@@ -425,16 +425,21 @@ def read_back(height, members, errors, thicknesses, count, out):
     return least
 
 
-def recount(table, head, bound, sequence):
-    plate = check_table(table, head)
+def check_sequence(plate, sequence, is_over=lambda below, above: False):
+    """13, the lowest index of all first; whether a layer is over the bound is the caller's to say."""
     last = len(sequence) - 1
     refuse(13, last < 1 or not may_start(plate, sequence[0]))
     for index, (below, above) in enumerate(layers(sequence), 1):
         refuse(13, not is_layer(plate, below, above) or above > plate.height + plate.tmax - 1, index)
-        refuse(13, table[plate.cell_of[below, above - below]] > bound, index)
+        refuse(13, is_over(below, above), index)
         refuse(13, index == 1 and not may_end_first(above), index)
         refuse(13, index == last and not may_start_last(plate, below), index)
         refuse(13, index == last and above < plate.height, index)
+
+
+def recount(table, head, bound, sequence):
+    plate = check_table(table, head)
+    check_sequence(plate, sequence, lambda below, above: table[plate.cell_of[below, above - below]] > bound)
     return sum(layer_errors(plate, table, sequence))
 
 
@@ -447,9 +452,13 @@ def picture(column, height, members, start, thickness):
     return is_filled(column, start, thickness), share(column, start, thickness)
 
 
+def check_step(step):
+    refuse(14, not 1 <= step <= 8192)
+
+
 def motor_height(step, z):
     """The f32 whose eightfold is exactly z·s, with positive zero for 0."""
-    refuse(14, not 1 <= step <= 8192)
+    check_step(step)
     refuse(15, not -31 <= z <= 543)
     height = z * step / 8 if z else 0.0
     assert struct.unpack("<f", struct.pack("<f", height))[0] * 8 == z * step
@@ -459,10 +468,11 @@ def motor_height(step, z):
 # ---- Job file: one record
 
 
-FAULTS = {"cut": 16, "kind": 16, "length": 16, "body": 16, "unequal": 16, "tail": 16, "start": 16, "missing": 16}
+FAULTS = {"cut": 16, "kind": 16, "length": 16, "body": 16, "unequal": 16, "tail": 16, "start": 16, "missing": 16, "height": 16, "over": 16, "time": 16, "low": 16}
 """The faults of a file and their numbers: fewer bytes left than a record's head has; a kind not allowed here; a length wrong for the kind; a
-body past the input; an end count unequal to the columns or to the rows; bytes after the end record; a row whose start is not the next one; an end
-before the last row."""
+body past the input; an end count unequal to the columns, to the rows or to the layers; bytes after the end record; a row whose start is not the
+next one; an end before the last row; a lift to no height that a next layer has; a lift after the last layer that there can be; a cure of another
+time than the layer's; a finish below the plate's height."""
 
 
 @dataclasses.dataclass(frozen=True)
@@ -870,6 +880,261 @@ def write_table(table, head, out):
     assert len(data) == table_file_size(plate_of(*head.settings()))
     out[:len(data)] = data
     return len(data)
+
+
+# ---- The printer's order list, request e) of document 02: a layer as printed
+
+
+def exact_bits(whole, parts):
+    """The 32 bits of the f32 whose so many fold, a power of two, is exactly this whole number above 0: its leading bit is left out, the 23 bits
+    after it are the fraction, and before them stands the exponent, from 127 on."""
+    leading, down = whole.bit_length() - 1, parts.bit_length() - 1
+    assert 0 <= leading <= 23 and parts == 1 << down
+    bits = (leading - down + 127) << 23 | (whole << 23 - leading) - (1 << 23)
+    value, = struct.unpack("<f", struct.pack("<I", bits))
+    assert value.as_integer_ratio()[0] * parts == whole * value.as_integer_ratio()[1]
+    return bits
+
+
+def height_whole(rise, step):
+    """Eight times the micrometres of so many units."""
+    return rise * step
+
+
+def time_whole(cure, t):
+    """64 times the seconds of a thickness."""
+    return cure[t - 1]
+
+
+def printed(step, cure, sequence):
+    """Each layer's upper height above the first boundary in eighths of a micrometre, and its time in 64ths of a second."""
+    return [(height_whole(above - sequence[0], step), time_whole(cure, above - below)) for below, above in layers(sequence)]
+
+
+def orders_of(step, cure, sequence):
+    """The orders of a sequence from 0: the kind, the whole number and the f32's bits."""
+    found = []
+    for height, time in printed(step, cure, sequence):
+        found += [(48, height, exact_bits(height, 8)), (49, time, exact_bits(time, 64))]
+    return [*found, (50, len(sequence) - 1, 0)]
+
+
+def orders_written(step, cure, sequence):
+    """The order file of a sequence."""
+    orders = orders_of(step, cure, sequence)
+    bodies = [(kind, struct.pack("<I", bits)) for kind, _, bits in orders[:-1]]
+    return in_records([*bodies, (50, struct.pack("<H", orders[-1][1]))])
+
+
+# ---- The printer's order list: the writer
+
+
+def check_cures(cure, sequence):
+    """18 at the first layer whose time is 0. Of a list that is too short, and of layers that are none, nothing is asked here."""
+    for index, (below, above) in enumerate(layers(sequence), 1):
+        refuse(18, 1 <= above - below <= len(cure) and time_whole(cure, above - below) == 0, index)
+
+
+def order_file_size(sequence):
+    return 16 * (len(sequence) - 1) + 6
+
+
+def settings_checks(height, members, step, cure):
+    """What both calls ask first. Without settings nothing says how long the list of times is."""
+    checks = {"1": lambda: check_height(height), "2": lambda: check_members(members), "14": lambda: check_step(step)}
+    if not holds(plate_of, height, members):
+        checks["3 list"] = lambda: check_room(1, cure, plate_of(height, members).tmax)
+    return checks
+
+
+def ordering_checks(height, members, step, cure, sequence, out):
+    """The checks of the writer by their names, in their order."""
+    settings = settings_checks(height, members, step, cure)
+    if holds(plate_of, height, members):
+        return settings
+    return settings | {
+        "13": lambda: check_sequence(plate_of(height, members), sequence),
+        "18": lambda: check_cures(cure, sequence),
+        "3 output": lambda: check_room(2, out, order_file_size(sequence)),
+    }
+
+
+def write_orders(height, members, step, cure, sequence, out):
+    """Writes the file into a lent output, and answers its length."""
+    for check in ordering_checks(height, members, step, cure, sequence, out).values():
+        check()
+    data = orders_written(step, cure, sequence)
+    assert len(data) == order_file_size(sequence)
+    out[:len(data)] = data
+    return len(data)
+
+
+# ---- The printer's order list: the reader
+
+
+@dataclasses.dataclass(frozen=True)
+class Ordered:
+    """What was read of an order file so far: the heights above the first boundary in units, whether the last of them still waits for its cure,
+    the orders, and whether the finish was read."""
+
+    rises: tuple = ()
+    is_lifted: bool = False
+    orders: tuple = ()
+    ended: bool = False
+
+    def top(self):
+        return self.rises[-1] if self.rises else 0
+
+    def thickness(self):
+        return self.top() - (self.rises[-2] if len(self.rises) > 1 else 0)
+
+
+@dataclasses.dataclass(frozen=True)
+class Printer:
+    """What a reader of orders is handed besides the file."""
+
+    plate: Plate
+    step: int
+    cure: tuple
+
+    @functools.cached_property
+    def usable(self):
+        """The thicknesses that a layer of an order file can have: allowed, and with a time."""
+        return [t for t in self.plate.thicknesses if time_whole(self.cure, t)]
+
+    def lift_bits(self, rise):
+        return exact_bits(height_whole(rise, self.step), 8)
+
+    def cure_bits(self, t):
+        return exact_bits(time_whole(self.cure, t), 64)
+
+    def lifted_by(self, body, read):
+        """The thickness by which these bytes lift; none where no thickness does."""
+        bits, = struct.unpack_from("<I", body.ljust(4, b"\0"))
+        return next((t for t in self.usable if self.lift_bits(read.top() + t) == bits), None)
+
+    def is_last(self, read):
+        """Whether no layer can come after these: from the lowest start that leaves z1 above 0, 1 - H1, they reach N already."""
+        return len(read.rises) > 0 and read.top() >= self.plate.height + read.rises[0] - 1
+
+
+def is_order_kind_allowed(kind, read):
+    """48 and 49 in turn, and 50 in 48's place after at least one layer. That 50 first of all is a kind not allowed, and not a finish below the
+    plate's height, is a decision: the kinds alone tell it."""
+    if read.is_lifted:
+        return kind == 49
+    return kind == 48 or kind == 50 and len(read.rises) > 0
+
+
+def is_order_length_wrong(kind, length):
+    return kind in (48, 49, 50) and length != {48: 4, 49: 4, 50: 2}[kind]
+
+
+def order_contents(kind, body, printer, read):
+    """The checks of a record's contents. That a lift after the last layer there can be is contents, and not a kind, is a decision."""
+    if kind == 48:
+        yield "height", FAULTS["height"], printer.lifted_by(body, read) is None
+        yield "over", FAULTS["over"], printer.is_last(read)
+    if kind == 49:
+        yield "time", FAULTS["time"], struct.unpack_from("<I", body.ljust(4, b"\0"))[0] != printer.cure_bits(read.thickness())
+    if kind == 50:
+        yield "unequal", FAULTS["unequal"], struct.unpack_from("<H", body.ljust(2, b"\0"))[0] != len(read.rises)
+        yield "low", FAULTS["low"], read.top() < printer.plate.height
+
+
+def order_record_checks(data, at, printer, read):
+    """The checks of a record of an order file in their order. Where its kind is not allowed there is nothing to hold its contents to."""
+    yield from frame_checks(data, at, lambda kind: is_order_kind_allowed(kind, read), is_order_length_wrong)
+    kind, body = framed(data, at)
+    if is_order_kind_allowed(kind, read):
+        yield from order_contents(kind, body, printer, read)
+
+
+def with_order(read, kind, body, printer):
+    """What was read with a good record more."""
+    if kind == 48:
+        rise = read.top() + printer.lifted_by(body, read)
+        order = 48, height_whole(rise, printer.step), printer.lift_bits(rise)
+        return dataclasses.replace(read, rises=(*read.rises, rise), is_lifted=True, orders=(*read.orders, order))
+    if kind == 49:
+        order = 49, time_whole(printer.cure, read.thickness()), printer.cure_bits(read.thickness())
+        return dataclasses.replace(read, is_lifted=False, orders=(*read.orders, order))
+    return dataclasses.replace(read, orders=(*read.orders, (50, len(read.rises), 0)), ended=True)
+
+
+def order_records(data, printer):
+    """The records one after the other up to the first at fault: the place of each, its checks, and what was read before it. After the finish there
+    is one check: that something is left."""
+    at, read = 0, Ordered()
+    while not read.ended:
+        checks = list(order_record_checks(data, at, printer, read))
+        yield at, checks, read
+        if any(is_so for _, _, is_so in checks):
+            return
+        kind, body = framed(data, at)
+        at, read = at + 4 + len(body), with_order(read, kind, body, printer)
+    yield at, [("tail", FAULTS["tail"], at < len(data))], read
+
+
+def order_faults(data, printer):
+    """The names of all the checks that hold in the first record at fault."""
+    return [name for _, checks, _ in order_records(data, printer) for name, _, is_so in checks if is_so]
+
+
+def orders_by_records(data, printer):
+    """The orders of a file. The first record at fault decides, and each place is the record's first byte."""
+    for at, checks, read in order_records(data, printer):
+        for _, number, is_so in checks:
+            refuse(number, is_so, at)
+    return list(read.orders)
+
+
+def admissible(plate):
+    """Every admissible sequence without a bound; for plates that have few."""
+    ends = [end for end in plate.heights if may_end(plate, end)]
+    return [s for end in ends for count in range(1, greatest_count(plate) + 1) for s in sequences(plate, count, end)]
+
+
+@functools.lru_cache(maxsize=256)
+def files_by_definition(height, members, step, cure):
+    """The file of every admissible sequence without a time of 0, and its orders; and each beginning of such a file that ends with a record."""
+    found, beginnings = {}, {b""}
+    for sequence in admissible(plate_of(height, members)):
+        if holds(check_cures, cure, sequence):
+            continue
+        data = orders_written(step, cure, sequence)
+        assert found.setdefault(data, orders_of(step, cure, sequence)) == orders_of(step, cure, sequence)
+        beginnings |= {data[:at] for at in (*range(0, len(data), 8), len(data))}
+    return found, beginnings
+
+
+def orders_by_definition(data, height, members, step, cure):
+    """The same for a plate that has few sequences: a file is good if it is that of one of them; and no such file is possible after the record that
+    stands behind the longest beginning of any of them."""
+    found, beginnings = files_by_definition(height, members, step, cure)
+    if data in found:
+        return found[data]
+    raise Refused(16, max(at for at in range(len(data) + 1) if data[:at] in beginnings))
+
+
+def answered(call, *arguments):
+    """What a call answers or how it refuses, to be compared."""
+    try:
+        return call(*arguments)
+    except Refused as refusal:
+        return str(refusal)
+
+
+def read_order(height, members, step, cure, data, number):
+    """The order at a number from 0, past the last the finish: of a small plate worked out both ways."""
+    for check in settings_checks(height, members, step, cure).values():
+        check()
+    plate, stated = plate_of(height, members), tuple(cure[:plate_of(height, members).tmax])
+    if is_small(plate) and set(FAULTS.values()) == {16}:
+        by_definition = answered(orders_by_definition, data, height, members, step, stated)
+        assert by_definition == answered(orders_by_records, data, Printer(plate, step, stated)), (by_definition, data)
+    orders = orders_by_records(data, Printer(plate, step, stated))
+    return orders[min(number, len(orders) - 1)]
 
 
 # ---- The planning program
