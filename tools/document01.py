@@ -1,8 +1,8 @@
 """Document 01 in plain Python, and the requests of document 02 that have landed: an independent reading, in the documents' own order and words.
 
 What the trial programs must print is made from here, by expected-calls, expected-records, expected-saves, expected-tables, expected-machines,
-expected-orders and expected-jobs. Nothing is taken from the library's sources. Voxels are counted one by one, the sequences of a small plate are listed and judged by
-the definition, and a call asks its refusals one after the other in the order that the document names them.
+expected-orders and expected-jobs. Nothing is taken from the library's sources. Voxels are counted one by one, the sequences of a small plate are
+listed and judged by the definition, and a call asks its refusals one after the other in the order that the document names them.
 
 A rule that a request of document 02 moves stands in one place: M in `greatest_count`, what is admissible in `may_start`, `may_end`,
 `may_end_first`, `may_start_last` and `is_layer`, what goes with a table in `Head`, the number of each fault of a file in `FAULTS`.
@@ -468,7 +468,8 @@ def motor_height(step, z):
 # ---- Job file: one record
 
 
-FAULTS = {"cut": 16, "kind": 16, "length": 16, "body": 16, "unequal": 16, "tail": 16, "start": 16, "missing": 16, "height": 16, "over": 16, "time": 16, "low": 16}
+FAULTS = {"cut": 16, "kind": 16, "length": 16, "body": 16, "unequal": 16, "tail": 16, "start": 16, "missing": 16}
+FAULTS |= {"height": 16, "over": 16, "time": 16, "low": 16}
 """The faults of a file and their numbers: fewer bytes left than a record's head has; a kind not allowed here; a length wrong for the kind; a
 body past the input; an end count unequal to the columns, to the rows or to the layers; bytes after the end record; a row whose start is not the
 next one; an end before the last row; a lift to no height that a next layer has; a lift after the last layer that there can be; a cure of another
