@@ -1,7 +1,7 @@
 // An order that is read of a file, a sequence whose orders are written, and orders that are written and read back. What is given of a case begins
 // with numbers of four bytes each: the height, the members, the step and the length of the list of times; then others.
 use crate::bytes;
-use crate::lists;
+use crate::numbers;
 use crate::show;
 use orders::read_order;
 use orders::write_orders;
@@ -25,9 +25,9 @@ fn show_order(given: &[u8], cure: &[u16], file: &[u8], number: u32) {
 // By the number of the order; then the times, and the file.
 pub(crate) fn read(given: &[u8], cure: &mut [u16]) {
     let times = quad(given, 12) as usize;
-    lists::lay_times(cure, times, given, 20);
+    numbers::lay_times(cure, times, given, 20);
     let file = bytes::part(given, 20 + 2 * times, given.len());
-    show_order(given, lists::part(cure, times), file, quad(given, 16));
+    show_order(given, numbers::part(cure, times), file, quad(given, 16));
 }
 
 fn written(given: &[u8], cure: &[u16], sequence: &[i32], output: &mut [u8]) {
@@ -62,13 +62,13 @@ fn write_given(
 ) {
     let times = quad(given, 12) as usize;
     let count = quad(given, 16) as usize;
-    lists::lay_times(cure, times, given, from);
+    numbers::lay_times(cure, times, given, from);
     let after = std::num::wrapping_add_usize(from, 2 * times);
-    lists::lay(sequence, count, bytes::part(given, after, given.len()));
+    numbers::lay(sequence, count, bytes::part(given, after, given.len()));
     written(
         given,
-        lists::part(cure, times),
-        lists::boundaries(sequence, count),
+        numbers::part(cure, times),
+        numbers::boundaries(sequence, count),
         output,
     );
 }
@@ -104,5 +104,5 @@ pub(crate) fn round(given: &[u8], cure: &mut [u16], sequence: &mut [i32], output
     let count = quad(given, 16) as usize;
     let asked = bytes::part(given, 36 + 2 * times + 4 * count, given.len());
     let file = bytes::part(output, 0, quad(given, 24) as usize);
-    read_all(given, asked, lists::part(cure, times), file);
+    read_all(given, asked, numbers::part(cure, times), file);
 }

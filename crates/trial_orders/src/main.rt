@@ -3,7 +3,7 @@
 mod bytes;
 mod calls;
 mod cases;
-mod lists;
+mod numbers;
 mod show;
 
 fn run(list: &[u8]) {

@@ -2,8 +2,8 @@
 use borrow.Author.Needs.{needs}
 use mathlib.Core.Path.{sym}
 use lib.Seq.{length-take-le}
-use Rattle.trial_orders.proofs.lists.boundaries.Statement.{statement}
-use Rattle.trial_orders.proofs.lists.boundaries.Tie as tie
+use Rattle.trial_orders.proofs.numbers.boundaries.Statement.{statement}
+use Rattle.trial_orders.proofs.numbers.boundaries.Tie as tie
 
 pub boundaries-spec : {M : Type 1} → statement M
 boundaries-spec =

@@ -2,8 +2,8 @@
 use borrow.Author.Needs.{needs}
 use mathlib.Core.Path.{sym}
 use lib.Seq.{length-take-le}
-use Rattle.trial_orders.proofs.lists.part.Statement.{statement}
-use Rattle.trial_orders.proofs.lists.part.Tie as tie
+use Rattle.trial_orders.proofs.numbers.part.Statement.{statement}
+use Rattle.trial_orders.proofs.numbers.part.Tie as tie
 
 pub part-spec : {M : Type 1} → statement M
 part-spec =

@@ -3,8 +3,8 @@ use borrow.Author.Needs.{needs}
 use lib.ListN.{length}
 use mathlib.Core.Path.{_≡_}
 use Prim.Native.Nat.{_-_}
-use Rattle.trial_orders.proofs.lists.lay.Statement.{statement}
-use Rattle.trial_orders.proofs.lists.lay.Tie as tie
+use Rattle.trial_orders.proofs.numbers.lay.Statement.{statement}
+use Rattle.trial_orders.proofs.numbers.lay.Tie as tie
 
 abbrev Inv-loop : tie.InvT-loop
 Inv-loop sequence₀ size stated i₀ sequence i = length sequence ≡ length sequence₀

@@ -2,8 +2,8 @@
 use borrow.Author.Needs.{needs}
 use mathlib.Core.Path.{sym}
 use lib.Seq.{length-take-le}
-use Rattle.trial_orders.proofs.lists.front.Statement.{statement}
-use Rattle.trial_orders.proofs.lists.front.Tie as tie
+use Rattle.trial_orders.proofs.numbers.front.Statement.{statement}
+use Rattle.trial_orders.proofs.numbers.front.Tie as tie
 
 pub front-spec : {M : Type 1} → statement M
 front-spec =

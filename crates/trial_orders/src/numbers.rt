@@ -1,4 +1,4 @@
-// Lent lists: times for each thickness, and the boundaries of a sequence, each laid from the bytes that a case is given.
+// Lists of numbers that are lent: times for each thickness, and the boundaries of a sequence. Each is laid from the bytes that a case is given.
 use record::quad;
 use record::read_words;
 
