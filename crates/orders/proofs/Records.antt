@@ -1,8 +1,8 @@
 -- Each record as it is stored: the numbers of two bytes that are written for it, and the two of a layer behind those of the layers before it. Where
 -- the output has room they are the file's bytes. Assumes nothing.
-use mathlib.Core.Path.{_≡_, refl, sym, ap, ap₂, _∙_}
+use mathlib.Core.Path.{_≡_, sym, ap, ap₂, _∙_}
 use mathlib.Core.List.{List, [], _∷_, _++_, append-nil}
-use Prim.Native.Nat.{ℕ, zero, suc, _+_, _*_, _/_, _%_, _≤_, _<_}
+use Prim.Native.Nat.{ℕ, zero, suc, _+_, _*_, _/_, _%_, _≤_}
 use native.Mathlib.Omega.{arith}
 use lib.IntN.{ℤ, natAbs, _-ℤ_}
 use lib.ListN.{length, drop, length-append}
@@ -14,7 +14,7 @@ use Rattle.record.proofs.Spelled.{length-bytesOf, length-framed}
 use Rattle.record.proofs.Stores.{stored-then, laid, numbers-append, halves}
 use Rattle.printed.specs.Possible.{cureOf}
 use Rattle.printed.specs.Records.{Record, lift, cure, finish}
-use Rattle.printed.specs.Paper.{layersTo, fileOf}
+use Rattle.printed.specs.Paper.{layersTo}
 use Rattle.printed.specs.Bytes.{bytesOf}
 use Rattle.printed.proofs.Bytes.{bytes-append}
 use Rattle.orders.specs.Layer.{heightBits, cureBits}

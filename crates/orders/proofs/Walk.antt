@@ -1,23 +1,22 @@
 -- Reading a file record by record. What is left of the file's checks is all of them, and the order asked for is known as soon as its layer is read:
 -- before that it is what is left of the file's orders, counted from there. By one step of the definitions for each way out of a turn.
 -- Assumes nothing.
-use mathlib.Core.Path.{_≡_, refl, sym, ap, ap₂, _∙_, subst}
+use mathlib.Core.Path.{_≡_, refl, sym, ap, ap₂, _∙_}
 use mathlib.Core.Bool.{Bool, true, false, cond}
 use mathlib.Core.List.{List, [], _∷_, _++_}
 use mathlib.Core.Option.{Option, none, some}
 use Prim.Native.Nat.{ℕ, zero, suc, _+_, _-_, _*_, _≤_, _<_}
 use native.Mathlib.Decide.{decLt, ℕ-discrete}
-use native.Mathlib.Numerals.{add-one}
 use native.Mathlib.Omega.{arith}
 use borrow.Author.Tests.{lt-ltb, le-ltb, eq-eqb, ne-eqb}
-use lib.Dec.{ltb, eqb}
+use lib.Dec.{ltb}
 use lib.ListN.{length}
 use Rattle.lists.specs.Checks.{Check, first}
 use Rattle.lists.proofs.Checks.{first-passed, first-stopped}
 use Rattle.plate.specs.Refusal.{Told, Numbered, toldBy, decided}
 use Rattle.record.specs.Faults.{frameChecks}
 use Rattle.printed.specs.Possible.{cureOf}
-use Rattle.printed.specs.Records.{Record, lift, cure, finish, ordersOver, orders}
+use Rattle.printed.specs.Records.{Record, lift, cure, ordersOver, orders}
 use Rattle.orders.specs.Layer.{printedLayer}
 use Rattle.orders.specs.Order.{orderOf, recordAt}
 use Rattle.orders.specs.File.{liftPlace, noLayers, grown, thicknessAt, nextChecks, finishes, layerChecks, finishChecks, ordersChecks, fileChecks, layersFrom, layersIn}

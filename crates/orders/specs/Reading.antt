@@ -14,8 +14,8 @@ unfoldable pub orderIn : ℕ → ℕ → List ℕ → List ℕ → ℕ → Order
 orderIn T step cures file number = orderOf step (recordAt (orders cures (layersIn T step cures file)) number)
 
 -- THE CALL: it answers the order, and writes nothing
-unfoldable pub reading : ℕ → ℕ → ℕ → List ℕ → List ℕ → ℕ → Call Order (Unit {0})
-reading N T step cures file number = record {
+unfoldable pub readingOrder : ℕ → ℕ → ℕ → List ℕ → List ℕ → ℕ → Call Order (Unit {0})
+readingOrder N T step cures file number = record {
   checks = lentChecks N T step cures ++ fileChecks N T step cures file;
   value = orderIn T step cures file number;
   writes = tt;

@@ -34,5 +34,5 @@ filing step cures zs out = record {
 }
 
 -- THE CALL: where nothing is refused it answers the file's length, and writes the file over what the output held
-unfoldable pub writing : ℕ → ℕ → ℕ → List ℕ → List ℤ → List ℕ → Call ℕ (List ℕ)
-writing N T step cures zs out = behind (lentChecks N T step cures ++ unboundedChecks N T zs) (filing step cures zs out)
+unfoldable pub writingOrders : ℕ → ℕ → ℕ → List ℕ → List ℤ → List ℕ → Call ℕ (List ℕ)
+writingOrders N T step cures zs out = behind (lentChecks N T step cures ++ unboundedChecks N T zs) (filing step cures zs out)

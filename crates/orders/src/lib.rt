@@ -26,8 +26,8 @@ ghost use Rattle.orders.specs.Lent.{lentChecks};
 ghost use Rattle.orders.specs.Written.{recordBytes};
 ghost use Rattle.orders.specs.Order.{toldOrder};
 ghost use Rattle.orders.specs.File.{liftPlace, grown, liftsBy, thicknessAt, nextChecks, liftChecks, cureChecks, layerChecks, finishChecks, fileChecks};
-ghost use Rattle.orders.specs.Writing.{firstUncured, filing, writing};
-ghost use Rattle.orders.specs.Reading.{orderIn, reading};
+ghost use Rattle.orders.specs.Writing.{firstUncured, filing, writingOrders};
+ghost use Rattle.orders.specs.Reading.{orderIn, readingOrder};
 ghost use Rattle.orders.specs.Parts.{mostRise, Climbs, Standing, Looked, picked};
 use motor::check_step;
 use plate::height::datum_of;
@@ -274,7 +274,7 @@ pub fn write_orders(
     sequence: &[i32],
     out: &mut [u8],
 ) -> Answer
-    ensures { λ r. ⌜ Does (writing height members step (now (cure .entry)) (now (sequence .entry)) (now (out .entry))) (told r) (now (out .exit)) ⌝ }
+    ensures { λ r. ⌜ Does (writingOrders height members step (now (cure .entry)) (now (sequence .entry)) (now (out .entry))) (told r) (now (out .exit)) ⌝ }
 {
     let lent = check_lent(height, members, step, cure);
     if let Made::Bad(refusal) = lent {
@@ -511,7 +511,7 @@ pub fn read_order(
     file: &[u8],
     number: u32,
 ) -> Ordered
-    ensures { λ r. ⌜ Does (reading height members step (now (cure .entry)) (now (file .entry)) number) (toldOrder r) tt ⌝ }
+    ensures { λ r. ⌜ Does (readingOrder height members step (now (cure .entry)) (now (file .entry)) number) (toldOrder r) tt ⌝ }
 {
     let lent = check_lent(height, members, step, cure);
     match lent {

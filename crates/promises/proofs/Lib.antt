@@ -24,10 +24,10 @@ pub mod Dealt
 pub mod Trips
 pub mod Mission
 pub mod PrintedFloats
-pub mod OrderRecords
-pub mod OrderStates
-pub mod OrderFiles
-pub mod OrdersRead
-pub mod OrdersWritten
-pub mod OrdersTrip
+pub mod PrintedRecords
+pub mod PrintedStates
+pub mod PrintedFiles
+pub mod PrintedRead
+pub mod PrintedWritten
+pub mod PrintedTrip
 pub mod PrintedLayers

@@ -5,10 +5,11 @@ use mathlib.Core.Logic.{_⊎_, inl, inr}
 use mathlib.Core.Bool.{Bool, true, false, cond, _||_}
 use mathlib.Core.List.{List, [], _∷_, _++_}
 use mathlib.Core.Option.{Option, none, some}
-use Prim.Native.Nat.{ℕ, zero, suc}
+use Prim.Native.Nat.{ℕ, zero, suc, _+_}
 use native.Mathlib.Omega.{arith}
 use borrow.Author.Tests.{eq-eqb}
 use lib.Dec.{eqb}
+use lib.ListN.{length}
 use Rattle.lists.specs.Checks.{Check, first}
 use Rattle.plate.specs.Call.{Call}
 use Rattle.plate.specs.Head.{heldIn}
@@ -38,7 +39,13 @@ use Rattle.sent.specs.Written.{rowsOf}
 use Rattle.sent.specs.File.{headIn, openingChecks, rowPlace, rowChecks, endChecks, recordChecks as behindChecks, rowsChecks, fileChecks}
 use Rattle.send.specs.Sending.{noRoom, sending}
 use Rattle.receive.specs.Receiving.{receiving}
-use Rattle.promises.specs.Orders.{numbers, isOneOf, ByLine, CallByLine, bodyLine, recordLine, fileLine, openingLine, behindLine, rowsLine, tableLine, Orders}
+use Rattle.orders.specs.Lent.{lentChecks}
+use Rattle.orders.specs.File as order
+use Rattle.orders.specs.File.{noLayers, grown, thicknessAt, nextChecks, finishes, liftChecks, cureChecks, finishChecks, ordersChecks}
+use Rattle.orders.specs.Writing.{fileWanted, filing, writingOrders}
+use Rattle.orders.specs.Reading.{readingOrder}
+use Rattle.orders.specs.declared.Stack.{Stack}
+use Rattle.promises.specs.Orders.{numbers, isOneOf, ByLine, CallByLine, bodyLine, recordLine, fileLine, openingLine, behindLine, rowsLine, tableLine, afterFrame, orderLine, Orders}
 use Rattle.promises.proofs.Refusals.{record-told}
 
 -- what the first check that holds says has one of the numbers
@@ -128,8 +135,28 @@ table-numbers file lent =
     numbers-append (openingChecks file ++ rows) (short (heldIn head lent) 1 ∷ [])
     ∙ ap (λ (l : List ℕ). l ++ (3 ∷ [])) (numbers-append (openingChecks file) rows ∙ ap₂ (λ (l m : List ℕ). l ++ m) (opening-numbers file) (rows-numbers file head (rowsOf head) 0))
 
+-- those of an order file
+order-numbers : (N T step : ℕ) (cures file : List ℕ) (left : ℕ) (read : Stack) → numbers (ordersChecks N T step cures file left read) ≡ orderLine file left (read .layers)
+unfolding ordersChecks nextChecks frameChecks order.layerChecks liftChecks cureChecks finishChecks
+order-numbers N T step cures file zero read = refl
+order-numbers N T step cures file (suc left) read =
+    ap (λ (l : List ℕ). 16 ∷ 16 ∷ 16 ∷ 16 ∷ l) (go (finishes file (read .layers)) (order-numbers N T step cures file left next))
+  where
+    next : Stack
+    next = grown read (thicknessAt T step cures file read)
+
+    go : (last : Bool) → numbers (ordersChecks N T step cures file left next) ≡ orderLine file left (read .layers + 1)
+        → numbers (cond last (finishChecks N file read) (order.layerChecks N T step cures file read ++ ordersChecks N T step cures file left next))
+        ≡ afterFrame last (orderLine file left (read .layers + 1))
+    go true e = refl
+    go false e = ap (λ (l : List ℕ). 16 ∷ 16 ∷ 16 ∷ 16 ∷ 16 ∷ 16 ∷ l) e
+
+read-numbers : (N T step : ℕ) (cures file : List ℕ) (number : ℕ) → numbers (readingOrder N T step cures file number .checks) ≡ 1 ∷ 2 ∷ 14 ∷ 3 ∷ orderLine file (length file) 0
+unfolding readingOrder lentChecks settingsChecks order.fileChecks
+read-numbers N T step cures file number = ap (λ (l : List ℕ). 1 ∷ 2 ∷ 14 ∷ 3 ∷ l) (order-numbers N T step cures file (length file) noLayers)
+
 pub orders : Orders
-unfolding sending noRoom writing sizeAnswer countChecks runChecks clearing adding joining taking planning reading recounting pictureAnswer pictureChecks layerChecks settingsChecks columnChecks short outCell boundChecks tableRest tableChecks overfullCell addRest differ pairChecks outChecks restChecks bothChecks partChecks planRest sizeChecks entryChecks sequenceChecks
+unfolding writingOrders lentChecks filing fileWanted sending noRoom writing sizeAnswer countChecks runChecks clearing adding joining taking planning reading recounting pictureAnswer pictureChecks layerChecks settingsChecks columnChecks short outCell boundChecks tableRest tableChecks overfullCell addRest differ pairChecks outChecks restChecks bothChecks partChecks planRest sizeChecks entryChecks sequenceChecks
 orders = record {
   clear = λ N T table. call-by-line (clearing N T table) _ refl;
   add = λ held column. call-by-line (adding held column) _ refl;
@@ -146,4 +173,6 @@ orders = record {
   read-file = λ lent file. call-by-line (loading lent file) (fileLine file) (file-numbers lent file);
   write-table = λ held out. call-by-line (sending held out) _ refl;
   read-table = λ file lent. call-by-line (receiving file lent) (tableLine file) (table-numbers file lent);
+  write-orders = λ N T step cures zs out. call-by-line (writingOrders N T step cures zs out) _ refl;
+  read-order = λ N T step cures file number. call-by-line (readingOrder N T step cures file number) _ (read-numbers N T step cures file number);
 }

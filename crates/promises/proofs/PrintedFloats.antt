@@ -1,13 +1,13 @@
--- The floats of an order list. No layers are higher together than 574 units, so that the product of a height and a step stays below 2^24, as every
--- cure time does: each float is exact by the motor's law, at 8 and at 64, and the only such f32. So heights of one float are the same height, as
+-- The floats of an order list. No layers are higher together than 574 units, so that each float is exact (`orders/Floats`), and by the motor's law the
+-- only such f32. So heights of one float are the same height, as
 -- the step is at least 1; and a float is known by its bits, which are a number of four bytes. Assumes nothing.
 use mathlib.Core.Path.{_≡_, sym, ap, subst, _∙_}
 use mathlib.Core.Bool.{Bool, false}
 use mathlib.Core.List.{List}
 use Prim.Native.Nat.{ℕ, _+_, _-_, _*_, _^_, _≤_, _<_}
-use native.Mathlib.Nat.{mul-le-mul, eq-of-mul-eq-mul-right}
+use native.Mathlib.Nat.{eq-of-mul-eq-mul-right}
 use native.Mathlib.Omega.{arith}
-use lib.Dec.{lit<, lit≤}
+use lib.Dec.{lit<}
 use lib.IntN.{pos}
 use lib.Ieee.{Float, nan, inf, fin, binary32, down, ofBits}
 use lib.Ieee.Bits.{ofBits-toBits, toBits-lt}
@@ -16,27 +16,19 @@ use lib.Ieee.Fits.{round-fits, down-pos}
 use Rattle.paper.specs.Layer.{tmax}
 use Rattle.paper.specs.Motor.{MotorHeight}
 use Rattle.paper.proofs.Thicknesses.{tmax-le}
-use Rattle.motor.proofs.Exact.{over-exact, value-only}
+use Rattle.motor.proofs.Exact.{value-only}
 use Rattle.orders.specs.Layer.{micrometres, seconds, CureTime, heightBits, cureBits}
+use Rattle.orders.proofs.Floats.{product-small, micrometres-exact, seconds-exact}
 use Rattle.promises.specs.Printing.{Lent, FloatsExactly}
 
-module _ (step : ℕ) where
-  height-single : (units : ℕ) → units * step < 2 ^ 24 → MotorHeight step (pos units) (micrometres step units)
-  unfolding micrometres
-  height-single units small = record { single = round-fits binary32 false (units * step) 8; eightfold = over-exact (pos (units * step)) small 3 (lit≤ tt) }
+height-only : (units step : ℕ) → units * step < 2 ^ 24 → (x : Float) → MotorHeight step (pos units) x → x ≡ micrometres step units
+height-only units step small x h =
+    let k = micrometres-exact units step small in
+    value-only binary32 x (micrometres step units) false (units * step) 8 (lit< tt) (h .single) (k .single) (h .eightfold) (k .eightfold)
 
-  height-only : (units : ℕ) → units * step < 2 ^ 24 → (x : Float) → MotorHeight step (pos units) x → x ≡ micrometres step units
-  height-only units small x h =
-      let k = height-single units small in
-      value-only binary32 x (micrometres step units) false (units * step) 8 (lit< tt) (h .single) (k .single) (h .eightfold) (k .eightfold)
-
-time-single : (cure : ℕ) → cure < 2 ^ 24 → CureTime cure (seconds cure)
-unfolding seconds
-time-single cure small = record { single = round-fits binary32 false cure 64; sixtyfourfold = over-exact (pos cure) small 6 (lit≤ tt) }
-
-time-only : (cure : ℕ) → cure < 2 ^ 24 → (x : Float) → CureTime cure x → x ≡ seconds cure
+time-only : (cure : ℕ) → cure < 65_536 → (x : Float) → CureTime cure x → x ≡ seconds cure
 time-only cure small x h =
-    let k = time-single cure small in
+    let k = seconds-exact cure small in
     value-only binary32 x (seconds cure) false cure 64 (lit< tt) (h .single) (k .single) (h .sixtyfourfold) (k .sixtyfourfold)
 
 -- a float has one value
@@ -61,23 +53,22 @@ module _ {N T step : ℕ} {cures : List ℕ} (l : Lent N T step cures) where
   small : (units : ℕ) → units ≤ most → units * step < 2 ^ 24
   small units u =
       let n = l .settings .greatest-height in
-      let w : units ≤ 574 = omega (arith, tmax-le T) in
-      omega (arith, mul-le-mul w (l .step-to))
+      product-small units step (omega (arith, tmax-le T)) (l .step-to)
 
   pub floats-exactly : FloatsExactly N T step
   floats-exactly = record {
-    height = λ units u. height-single step units (small units u);
-    height-only = λ units u. height-only step units (small units u);
-    time = λ cure u. time-single cure (omega arith);
-    time-only = λ cure u. time-only cure (omega arith);
+    height = λ units u. micrometres-exact units step (small units u);
+    height-only = λ units u. height-only units step (small units u);
+    time = seconds-exact;
+    time-only = time-only;
   }
 
   -- heights of the same bits are the same
   pub heights-same : (x y : ℕ) → x ≤ most → y ≤ most → heightBits step x ≡ heightBits step y → x ≡ y
   unfolding heightBits
   heights-same x y u v e =
-      let a = height-single step x (small x u) in
-      let b = height-single step y (small y v) in
+      let a = micrometres-exact x step (small x u) in
+      let b = micrometres-exact y step (small y v) in
       let f : micrometres step x ≡ micrometres step y =
       sym (ofBits-toBits binary32 (micrometres step x) (a .single)) ∙ ap (ofBits binary32) e ∙ ofBits-toBits binary32 (micrometres step y) (b .single) in
       eq-of-mul-eq-mul-right step (l .step-from) x y

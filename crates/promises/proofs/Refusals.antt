@@ -22,6 +22,8 @@ use Rattle.load.specs.Load.{loading}
 use Rattle.save.specs.Writing.{countChecks, writing, sizeAnswer}
 use Rattle.send.specs.Sending.{sending}
 use Rattle.receive.specs.Receiving.{receiving}
+use Rattle.orders.specs.Writing.{writingOrders}
+use Rattle.orders.specs.Reading.{readingOrder}
 use Rattle.promises.specs.Refusals.{Refusals}
 
 moved-told : (st : State) (at : ℕ) (o : Option Numbered) (r : Reading) → moved st at (toldBy o r) .told ≡ toldBy o (r .what)
@@ -50,4 +52,6 @@ refusals = record {
   read-file = λ lent file. exactly (loading lent file);
   write-table = λ held out. exactly (sending held out);
   read-table = λ file lent. exactly (receiving file lent);
+  write-orders = λ N T step cures zs out. exactly (writingOrders N T step cures zs out);
+  read-order = λ N T step cures file number. exactly (readingOrder N T step cures file number);
 }

@@ -40,6 +40,10 @@ use Rattle.load.specs.declared.Loaded.the-variants as loaded
 use Rattle.save.specs.Writing.{writing}
 use Rattle.send.specs.Sending.{sending}
 use Rattle.receive.specs.Receiving.{receiving}
+use Rattle.orders.specs.Order.{toldOrder}
+use Rattle.orders.specs.Writing.{writingOrders}
+use Rattle.orders.specs.declared.Ordered.{Ordered}
+use Rattle.orders.specs.declared.Ordered.the-variants as ordered
 use Rattle.promises.specs.Told.{Only, Unwritten, Unmoved}
 
 -- a refusal is known by its number and place
@@ -106,6 +110,12 @@ file-told (loaded.Done x) (loaded.Refused r) e = absurd (let z : _≡_ {A = ℕ}
 file-told (loaded.Refused r) (loaded.Done y) e = absurd (let z : _≡_ {A = ℕ} 0 1 = cc in omega arith)
 file-told (loaded.Refused r) (loaded.Refused s) e = ap loaded.Refused (refusal-only r s e)
 
+order-told : (a b : Ordered) → toldOrder a ≡ toldOrder b → a ≡ b
+order-told (ordered.Done x) (ordered.Done y) e = let q : x ≡ y = cc in ap ordered.Done q
+order-told (ordered.Done x) (ordered.Refused r) e = absurd (let z : _≡_ {A = ℕ} 0 1 = cc in omega arith)
+order-told (ordered.Refused r) (ordered.Done y) e = absurd (let z : _≡_ {A = ℕ} 0 1 = cc in omega arith)
+order-told (ordered.Refused r) (ordered.Refused s) e = ap ordered.Refused (refusal-only r s e)
+
 pub only : Only
 only = record {
   number = number-told;
@@ -116,6 +126,7 @@ only = record {
   settings = settings-told;
   step = step-told;
   file = file-told;
+  order = order-told;
 }
 
 pub unwritten : Unwritten
@@ -130,6 +141,7 @@ unwritten = record {
   read-file = λ lent file. keeps (loading lent file);
   write-table = λ held out. keeps (sending held out);
   read-table = λ file lent. keeps (receiving file lent);
+  write-orders = λ N T step cures zs out. keeps (writingOrders N T step cures zs out);
 }
 
 -- a refusal moves nothing

@@ -1,13 +1,14 @@
 -- Document 01, 'What comes back', line by line: 'Clear a table: 1, 2, 3' and so on. The numbers of each call's checks, in the order in which they
 -- are asked, are those of its line; and every input gets an answer, the call's value or a refusal by one of those numbers. The calls that document
 -- 02 adds have its lines. Assumes nothing.
-use Prim.Native.Nat.{ℕ, zero, suc}
+use Prim.Native.Nat.{ℕ, zero, suc, _+_}
 use mathlib.Core.Path.{_≡_}
 use mathlib.Core.Logic.{_⊎_}
 use mathlib.Core.Bool.{Bool, true, false, _||_}
 use mathlib.Core.List.{List, [], _∷_, _++_}
 use lib.Dec.{eqb}
 use lib.IntN.{ℤ, pos, _*ℤ_}
+use lib.ListN.{length}
 use Rattle.lists.specs.Checks.{Check}
 use Rattle.paper.specs.Layer.{Column}
 use Rattle.plate.specs.Call.{Call, answerOf}
@@ -36,6 +37,9 @@ use Rattle.sent.specs.Written.{rowsOf}
 use Rattle.sent.specs.File.{headIn, rowPlace}
 use Rattle.send.specs.Sending.{sending}
 use Rattle.receive.specs.Receiving.{receiving}
+use Rattle.orders.specs.File.{finishes}
+use Rattle.orders.specs.Writing.{writingOrders}
+use Rattle.orders.specs.Reading.{readingOrder}
 
 -- the numbers of some checks, in their order
 abbrev pub numbers : List (Check Numbered) → List ℕ
@@ -92,6 +96,17 @@ rowsLine file T (suc left) r = behindLine (eqb (kindAt file (rowPlace T r)) endK
 abbrev pub tableLine : List ℕ → List ℕ
 tableLine file = (openingLine ++ rowsLine file (headIn file .members) (rowsOf (headIn file)) 0) ++ (3 ∷ [])
 
+-- document 02 e), 'the reader, after the list, gives 16 at the first record after which no such file is possible': behind the frame of a record, by
+-- whether it is the finish, which has its number and then bytes after it; a layer has its height, and its cure time's frame and bytes
+abbrev pub afterFrame : Bool → List ℕ → List ℕ
+afterFrame true rest = 16 ∷ 16 ∷ []
+afterFrame false rest = 16 ∷ 16 ∷ 16 ∷ 16 ∷ 16 ∷ 16 ∷ rest
+
+-- the records behind so many layers, of at most so many more; and then the end of the file
+abbrev pub orderLine : List ℕ → ℕ → ℕ → List ℕ
+orderLine file zero layers = 16 ∷ []
+orderLine file (suc left) layers = 16 ∷ 16 ∷ 16 ∷ 16 ∷ afterFrame (finishes file layers) (orderLine file left (layers + 1))
+
 pub record Orders : Type 0 where
   pub clear : (N T : ℕ) (table : List ℕ) → CallByLine (clearing N T table) (1 ∷ 2 ∷ 3 ∷ [])
   pub add : (held : Held) (column : Column) → CallByLine (adding held column) (1 ∷ 2 ∷ 3 ∷ 7 ∷ 4 ∷ 5 ∷ 6 ∷ [])
@@ -111,3 +126,5 @@ pub record Orders : Type 0 where
   pub read-file : (lent : List ℕ) (file : Told Job) → CallByLine (loading lent file) (fileLine file)
   pub write-table : (held : Held) (out : List ℕ) → CallByLine (sending held out) (1 ∷ 2 ∷ 3 ∷ 7 ∷ 6 ∷ 3 ∷ [])
   pub read-table : (file lent : List ℕ) → CallByLine (receiving file lent) (tableLine file)
+  pub write-orders : (N T step : ℕ) (cures : List ℕ) (zs : List ℤ) (out : List ℕ) → CallByLine (writingOrders N T step cures zs out) (1 ∷ 2 ∷ 14 ∷ 3 ∷ 13 ∷ 13 ∷ 18 ∷ 3 ∷ [])
+  pub read-order : (N T step : ℕ) (cures file : List ℕ) (number : ℕ) → CallByLine (readingOrder N T step cures file number) (1 ∷ 2 ∷ 14 ∷ 3 ∷ orderLine file (length file) 0)

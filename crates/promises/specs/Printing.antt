@@ -7,7 +7,7 @@ use mathlib.Core.Logic.{_↔_, _⊎_}
 use mathlib.Core.List.{List, []}
 use lib.Ieee.{Float}
 use lib.IntN.{ℤ, pos, natAbs, _-ℤ_}
-use lib.ListN.{length, take}
+use lib.ListN.{length, take, drop}
 use Rattle.paper.specs.Limits.{largestBound}
 use Rattle.paper.specs.Layer as paper
 use Rattle.paper.specs.Layer.{tmax, ofColumns}
@@ -21,8 +21,8 @@ use Rattle.printed.specs.Bytes.{FaultAt}
 use Rattle.orders.specs.Layer.{micrometres, seconds, printedLayer, CureTime, Exactly}
 use Rattle.orders.specs.Written.{recordBytes, orderBytes, fileSize}
 use Rattle.orders.specs.Order.{orderOf, recordAt}
-use Rattle.orders.specs.Writing.{writing}
-use Rattle.orders.specs.Reading.{reading}
+use Rattle.orders.specs.Writing.{writingOrders}
+use Rattle.orders.specs.Reading.{readingOrder}
 use Rattle.orders.specs.declared.Order.{Order}
 use Rattle.orders.specs.declared.Order.the-variants.{Lift, Cure, Finish}
 use Rattle.promises.specs.Recounts.{LowestFault}
@@ -52,9 +52,9 @@ PrintsExactly N T step cures zs =
 -- 'reading accepts exactly the files that the writer gives for some admissible sequence under these', whichever of them is taken, and gives 16 'at the
 -- first record after which no such file is possible': at the furthest end of a record up to which such a file agrees with the input, or at 0
 pub record ReadsExactly (N T step : ℕ) (cures file : List ℕ) (number : ℕ) : Type 0 where
-  pub accepts : (o : Order) → (answerOf (reading N T step cures file number) ≡ done o)
+  pub accepts : (o : Order) → (answerOf (readingOrder N T step cures file number) ≡ done o)
       ↔ ((zs : List ℤ) × Orderable N T cures zs × (orderBytes step cures zs ≡ file) × (o ≡ orderOf step (recordAt (fileOf cures zs) number)))
-  pub refuses : (n place : ℕ) → (answerOf (reading N T step cures file number) ≡ refused n place) ↔ ((n ≡ 16) × FaultAt N T cures (recordBytes step) file place)
+  pub refuses : (n place : ℕ) → (answerOf (readingOrder N T step cures file number) ≡ refused n place) ↔ ((n ≡ 16) × FaultAt N T cures (recordBytes step) file place)
 
 -- the first layer, from 1, whose cure time is 0
 pub record FirstUncured (cures : List ℕ) (zs : List ℤ) (place : ℕ) : Type 0 where
@@ -66,22 +66,24 @@ pub record FirstUncured (cures : List ℕ) (zs : List ℤ) (place : ℕ) : Type 
 
 -- what is written, and what is refused of a sequence
 pub record WritesExactly (N T step : ℕ) (cures : List ℕ) (zs : List ℤ) (out : List ℕ) : Type 0 where
-  pub writes : (size : ℕ) → (answerOf (writing N T step cures zs out) ≡ done size)
+  pub writes : (size : ℕ) → (answerOf (writingOrders N T step cures zs out) ≡ done size)
       ↔ (Orderable N T cures zs × (size ≡ fileSize (count zs)) × (size ≤ length out))
-  pub inadmissible : (place : ℕ) → (answerOf (writing N T step cures zs out) ≡ refused 13 place) ↔ LowestFault (ofColumns N T []) largestBound zs place
-  pub uncured : (place : ℕ) → (answerOf (writing N T step cures zs out) ≡ refused 18 place)
+  pub inadmissible : (place : ℕ) → (answerOf (writingOrders N T step cures zs out) ≡ refused 13 place) ↔ LowestFault (ofColumns N T []) largestBound zs place
+  pub uncured : (place : ℕ) → (answerOf (writingOrders N T step cures zs out) ≡ refused 18 place)
       ↔ (Admissible (ofColumns N T []) largestBound zs × FirstUncured cures zs place)
-  pub short : (place : ℕ) → (answerOf (writing N T step cures zs out) ≡ refused 3 place)
+  pub short : (place : ℕ) → (answerOf (writingOrders N T step cures zs out) ≡ refused 3 place)
       ↔ (Orderable N T cures zs × (length out < fileSize (count zs)) × (place ≡ 2))
   -- and nothing else
-  pub refuses : (n place : ℕ) → answerOf (writing N T step cures zs out) ≡ refused n place → (n ≡ 13) ⊎ ((n ≡ 18) ⊎ (n ≡ 3))
+  pub refuses : (n place : ℕ) → answerOf (writingOrders N T step cures zs out) ≡ refused n place → (n ≡ 13) ⊎ ((n ≡ 18) ⊎ (n ≡ 3))
 
 -- written, and then read, order after order: those of each layer as printed, and the finish
 pub record WrittenThenRead (N T step : ℕ) (cures : List ℕ) (zs : List ℤ) (out : List ℕ) : Type 0 where
   pub length-is : length (orderBytes step cures zs) ≡ 16 * count zs + 6
-  pub file : take (16 * count zs + 6) (leftBy (writing N T step cures zs out)) ≡ orderBytes step cures zs
-  pub lifts : (k : ℕ) → k < count zs → answerOf (reading N T step cures (orderBytes step cures zs) (2 * k))
+  pub file : take (16 * count zs + 6) (leftBy (writingOrders N T step cures zs out)) ≡ orderBytes step cures zs
+  -- what stands behind it stays
+  pub kept : drop (16 * count zs + 6) (leftBy (writingOrders N T step cures zs out)) ≡ drop (16 * count zs + 6) out
+  pub lifts : (k : ℕ) → k < count zs → answerOf (readingOrder N T step cures (orderBytes step cures zs) (2 * k))
       ≡ done (Lift (printedLayer (natAbs (zs ! suc k -ℤ zs ! 0)) (thickness zs k) step (cureOf cures (thickness zs k)) .height))
-  pub cures-for : (k : ℕ) → k < count zs → answerOf (reading N T step cures (orderBytes step cures zs) (2 * k + 1))
+  pub cures-for : (k : ℕ) → k < count zs → answerOf (readingOrder N T step cures (orderBytes step cures zs) (2 * k + 1))
       ≡ done (Cure (printedLayer (natAbs (zs ! suc k -ℤ zs ! 0)) (thickness zs k) step (cureOf cures (thickness zs k)) .cure))
-  pub finishes : (number : ℕ) → 2 * count zs ≤ number → answerOf (reading N T step cures (orderBytes step cures zs) number) ≡ done (Finish (count zs))
+  pub finishes : (number : ℕ) → 2 * count zs ≤ number → answerOf (readingOrder N T step cures (orderBytes step cures zs) number) ≡ done (Finish (count zs))

@@ -25,6 +25,8 @@ use Rattle.load.specs.Load.{loading}
 use Rattle.save.specs.Writing.{countChecks, writing, sizeAnswer}
 use Rattle.send.specs.Sending.{sending}
 use Rattle.receive.specs.Receiving.{receiving}
+use Rattle.orders.specs.Writing.{writingOrders}
+use Rattle.orders.specs.Reading.{readingOrder}
 
 -- an answer is a refusal exactly when one of these checks holds and none before it
 abbrev pub Exactly : {X : Type 0} → Told X → List (Check Numbered) → Type 0
@@ -50,3 +52,5 @@ pub record Refusals : Type 0 where
   pub read-file : (lent : List ℕ) (file : Told Job) → ByItsList (loading lent file)
   pub write-table : (held : Held) (out : List ℕ) → ByItsList (sending held out)
   pub read-table : (file lent : List ℕ) → ByItsList (receiving file lent)
+  pub write-orders : (N T step : ℕ) (cures : List ℕ) (zs : List ℤ) (out : List ℕ) → ByItsList (writingOrders N T step cures zs out)
+  pub read-order : (N T step : ℕ) (cures file : List ℕ) (number : ℕ) → ByItsList (readingOrder N T step cures file number)

@@ -32,6 +32,9 @@ use Rattle.load.specs.declared.Loaded.{Loaded}
 use Rattle.save.specs.Writing.{writing}
 use Rattle.send.specs.Sending.{sending}
 use Rattle.receive.specs.Receiving.{receiving}
+use Rattle.orders.specs.Order.{toldOrder}
+use Rattle.orders.specs.Writing.{writingOrders}
+use Rattle.orders.specs.declared.Ordered.{Ordered}
 
 -- an answer is the only one that tells what it tells, so a contract about what is told leaves one answer
 pub record Only : Type 0 where
@@ -43,6 +46,7 @@ pub record Only : Type 0 where
   pub settings : (a b : Made) → toldMade a ≡ toldMade b → a ≡ b
   pub step : (a b : Step) → toldStep a ≡ toldStep b → a ≡ b
   pub file : (a b : Loaded) → toldLoad a ≡ toldLoad b → a ≡ b
+  pub order : (a b : Ordered) → toldOrder a ≡ toldOrder b → a ≡ b
 
 -- a refused call leaves what the memory held
 abbrev pub Keeps : {X B : Type 0} → Call X B → Type 0
@@ -60,6 +64,7 @@ pub record Unwritten : Type 0 where
   pub read-file : (lent : List ℕ) (file : Told Job) → Keeps (loading lent file)
   pub write-table : (held : Held) (out : List ℕ) → Keeps (sending held out)
   pub read-table : (file lent : List ℕ) → Keeps (receiving file lent)
+  pub write-orders : (N T step : ℕ) (cures : List ℕ) (zs : List ℤ) (out : List ℕ) → Keeps (writingOrders N T step cures zs out)
 
 -- a read that is refused moves neither the place nor the state
 abbrev pub Unmoved : Type 0

@@ -17,11 +17,11 @@ ghost use Rattle.plan.specs.Plan.{planning, sheetsIn};
 ghost use Rattle.readback.specs.Reading.{reading};
 ghost use Rattle.recount.specs.Recount.{recounting};
 ghost use Rattle.load.specs.Load.{jobOf, loading};
-ghost use Rattle.save.specs.Writing.{writing as saving, sizeAnswer};
+ghost use Rattle.save.specs.Writing.{writing, sizeAnswer};
 ghost use Rattle.send.specs.Sending.{sending};
 ghost use Rattle.receive.specs.Receiving.{receiving};
-ghost use Rattle.orders.specs.Writing.{writing};
-ghost use Rattle.orders.specs.Reading.{reading as orderReading};
+ghost use Rattle.orders.specs.Writing.{writingOrders};
+ghost use Rattle.orders.specs.Reading.{readingOrder};
 ghost use Rattle.shagorent.specs.Version.{version};
 ghost use Rattle.replies.specs.Replies.{Replies, reply, tableReply, pictureReply, heightReply, jobReply, orderReply};
 use adding::add_column;
@@ -182,7 +182,7 @@ pub extern "C" fn shagorent_write_job(
     counts: &[u16],
     out: &mut [u8],
 ) -> Reply
-    ensures { λ r. ⌜ Replies reply (saving height members bound (now (boundaries .entry)) (now (counts .entry)) (now (out .entry))) r (now (out .exit)) ⌝ }
+    ensures { λ r. ⌜ Replies reply (writing height members bound (now (boundaries .entry)) (now (counts .entry)) (now (out .entry))) r (now (out .exit)) ⌝ }
 {
     reply_of(write_job(height, members, bound, boundaries, counts, out))
 }
@@ -210,7 +210,7 @@ pub extern "C" fn shagorent_write_orders(
     sequence: &[i32],
     out: &mut [u8],
 ) -> Reply
-    ensures { λ r. ⌜ Replies reply (writing height members step (now (cure .entry)) (now (sequence .entry)) (now (out .entry))) r (now (out .exit)) ⌝ }
+    ensures { λ r. ⌜ Replies reply (writingOrders height members step (now (cure .entry)) (now (sequence .entry)) (now (out .entry))) r (now (out .exit)) ⌝ }
 {
     reply_of(write_orders(height, members, step, cure, sequence, out))
 }
@@ -224,7 +224,7 @@ pub extern "C" fn shagorent_read_order(
     file: &[u8],
     number: u32,
 ) -> OrderReply
-    ensures { λ r. ⌜ r ≡ orderReply (answerOf (orderReading height members step (now (cure .entry)) (now (file .entry)) number)) ⌝ }
+    ensures { λ r. ⌜ r ≡ orderReply (answerOf (readingOrder height members step (now (cure .entry)) (now (file .entry)) number)) ⌝ }
 {
     order_reply(read_order(height, members, step, cure, file, number))
 }

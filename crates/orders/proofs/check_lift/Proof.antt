@@ -11,7 +11,6 @@ use Rattle.paper.specs.Layer.{tmax}
 use Rattle.paper.proofs.Thicknesses.{tmax-le}
 use Rattle.plate.specs.Refusal.{numbered}
 use Rattle.plate.specs.declared.refusal.Refusal.{Refusal}
-use Rattle.plate.specs.declared.settings.Settings.{Settings}
 use Rattle.record.specs.Bytes.{le32}
 use Rattle.record.specs.Frame.{bodyAt}
 use Rattle.orders.specs.File.{liftPlace, liftsBy, thicknessAt}

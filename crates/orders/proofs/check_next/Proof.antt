@@ -1,7 +1,7 @@
 -- `check_next` meets its contract: a frame, by what the kind allows. Assumes nothing.
-use mathlib.Core.Path.{_≡_, refl, sym, ap, ap₂, _∙_}
+use mathlib.Core.Path.{ap, ap₂, _∙_}
 use mathlib.Core.Bool.{Bool}
-use Prim.Native.Nat.{ℕ, _*_}
+use Prim.Native.Nat.{_*_}
 use borrow.Author.Needs.{needs}
 use Rattle.lists.specs.Checks.{first}
 use Rattle.record.specs.Faults.{frameChecks}

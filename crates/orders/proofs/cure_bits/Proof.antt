@@ -1,5 +1,5 @@
 -- `cure_bits` meets its contract: the layer is exact, so that its cure time is no NaN, and by its definition has these bits. Assumes nothing.
-use mathlib.Core.Path.{ap, _∙_}
+use mathlib.Core.Path.{ap}
 use borrow.Author.Needs.{needs}
 use lib.Ieee.{binary32, toBits}
 use Rattle.orders.specs.Layer.{cureBits}

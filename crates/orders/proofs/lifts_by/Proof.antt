@@ -1,6 +1,5 @@
 -- `lifts_by` meets its contract: a usable thickness, and the bits of the height that it leads to. Assumes nothing.
 use mathlib.Core.Path.{sym, ap, _∙_}
-use native.Mathlib.Omega.{arith}
 use borrow.Author.Needs.{needs}
 use borrow.Author.Tests.{not-true, not-false}
 use lib.Dec.{eqb}

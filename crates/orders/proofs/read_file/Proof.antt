@@ -1,16 +1,15 @@
 -- `read_file` meets its contract. The loop's invariant is what is known before each layer (`Walk`); each way out of a turn is one of its laws, and a
 -- turn that goes on has read one layer more. Assumes nothing.
-use mathlib.Core.Path.{_≡_, refl, sym, ap, ap₂, _∙_, subst}
+use mathlib.Core.Path.{_≡_, sym, ap, _∙_, subst}
 use mathlib.Core.Bool.{true, false}
 use mathlib.Core.List.{List}
 use mathlib.Core.Option.{Option, none, some}
-use Prim.Native.Nat.{ℕ, suc, _+_, _-_, _*_, _≤_, _<_}
+use Prim.Native.Nat.{ℕ, suc, _+_, _-_, _≤_}
 use native.Mathlib.Omega.{arith}
 use borrow.Author.Needs.{needs}
 use borrow.Author.Tests.{eq-eqb, ne-eqb}
-use lib.Dec.{eqb}
 use lib.ListN.{length}
-use Rattle.lists.specs.Checks.{Check, first}
+use Rattle.lists.specs.Checks.{first}
 use Rattle.plate.specs.Checked.{saidBy}
 use Rattle.plate.specs.Refusal.{refusal, Numbered, numbered, toldBy, decided}
 use Rattle.plate.specs.declared.refusal.Refusal.{Refusal}
@@ -21,7 +20,7 @@ use Rattle.orders.specs.File.{grown, thicknessAt, nextChecks, finishes, 
 use Rattle.orders.specs.Reading.{orderIn}
 use Rattle.orders.specs.Parts.{Looked, Standing, picked}
 use Rattle.orders.specs.declared.Layer.{Layer}
-use Rattle.orders.specs.declared.Layer.the-variants.{Thick, Refused}
+use Rattle.orders.specs.declared.Layer.the-variants.{Thick}
 use Rattle.orders.specs.declared.Order.{Order}
 use Rattle.orders.specs.declared.Printed.{Printed}
 use Rattle.orders.specs.declared.Stack.{Stack}

@@ -1,13 +1,11 @@
 -- `read_layer` meets its contract: the lift's verdict, and behind it the cure time's. Assumes nothing.
 use mathlib.Core.Path.{_≡_, sym, ap, subst, _∙_}
 use mathlib.Core.List.{List}
-use mathlib.Core.Option.{Option, some}
 use Prim.Native.Nat.{ℕ}
 use native.Mathlib.Omega.{arith}
 use borrow.Author.Needs.{needs}
 use Rattle.lists.specs.Checks.{first}
 use Rattle.plate.specs.Checked.{saidBy}
-use Rattle.plate.specs.Refusal.{Numbered}
 use Rattle.plate.specs.declared.refusal.Refusal.{Refusal}
 use Rattle.orders.specs.File.{thicknessAt, liftChecks, cureChecks, layerChecks}
 use Rattle.orders.specs.Parts.{Looked}

@@ -1,5 +1,5 @@
 -- `read_order` meets its contract: what was lent is judged, and behind it the file. Assumes nothing.
-use mathlib.Core.Path.{_≡_, refl, sym, ap, _∙_, subst}
+use mathlib.Core.Path.{_≡_, sym, ap, _∙_}
 use mathlib.Core.Option.{none}
 use borrow.Author.Needs.{needs}
 use Rattle.lists.specs.Checks.{first}

@@ -1,14 +1,14 @@
 -- `write_layers` meets its contract. The loop's invariant: the records of the layers below this one are stored. Assumes nothing.
 use mathlib.Core.Path.{_≡_, refl, sym, ap, ap₂, _∙_}
 use mathlib.Core.List.{List}
-use Prim.Native.Nat.{ℕ, suc, _+_, _-_, _*_, _≤_, _<_}
+use Prim.Native.Nat.{ℕ, _+_, _-_, _*_, _≤_, _<_}
 use native.Mathlib.Omega.{arith}
 use native.Mathlib.Numerals.{add-one}
 use borrow.Author.Needs.{needs}
 use lib.IntN.{ℤ}
 use lib.ListN.{length}
 use lib.Seq.{sets, length-sets}
-use Rattle.paper.specs.Sequence.{_!_, count, thickness}
+use Rattle.paper.specs.Sequence.{count}
 use Rattle.printed.specs.Possible.{cureOf}
 use Rattle.printed.specs.Paper.{layersTo}
 use Rattle.printed.specs.Bytes.{bytesOf}

@@ -28,11 +28,11 @@ use Rattle.printed.specs.Possible.{cureOf}
 use Rattle.printed.specs.Paper.{Orderable}
 use Rattle.orders.specs.Lent.{lentChecks}
 use Rattle.orders.specs.Written.{fileSize}
-use Rattle.orders.specs.Writing.{firstUncured, fileWanted, filing, writing}
+use Rattle.orders.specs.Writing.{firstUncured, fileWanted, filing, writingOrders}
 use Rattle.promises.specs.Recounts.{LowestFault}
 use Rattle.promises.specs.Printing.{Lent, FirstUncured, WritesExactly}
 use Rattle.promises.proofs.Recounts.{clash, fault-only, Verdict, admissible-faultless, verdict}
-use Rattle.promises.proofs.OrdersRead.{lent-fine}
+use Rattle.promises.proofs.PrintedRead.{lent-fine}
 
 -- an empty table is that of no columns
 no-error : (T : ℕ) (z : ℤ) (t : ℕ) → cellAt T [] z t ≡ shares [] z t
@@ -79,7 +79,7 @@ module _ {N T step : ℕ} {cures : List ℕ} (l : Lent N T step cures) (zs : Lis
   size = fileSize (count zs)
 
   abbrev answer : Told ℕ
-  answer = answerOf (writing N T step cures zs out)
+  answer = answerOf (writingOrders N T step cures zs out)
 
   abbrev wanted : List (Check Numbered)
   wanted = fileWanted cures zs (length out)
@@ -89,7 +89,7 @@ module _ {N T step : ℕ} {cures : List ℕ} (l : Lent N T step cures) (zs : Lis
 
   -- what decides
   answered : (o : Option Numbered) → first (unboundedChecks N T zs ++ wanted) ≡ o → answer ≡ toldBy o size
-  unfolding writing filing
+  unfolding writingOrders filing
   answered o e =
       ap (λ (o : Option Numbered). toldBy o size)
       (ap first (append-assoc (lentChecks N T step cures) (unboundedChecks N T zs) wanted)

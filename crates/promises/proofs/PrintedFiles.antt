@@ -41,8 +41,8 @@ use Rattle.orders.specs.File.{liftPlace, curePlace, noLayers, grown, liftsBy, t
 use Rattle.orders.specs.declared.Stack.{Stack}
 use Rattle.promises.specs.Printing.{Lent}
 use Rattle.promises.proofs.PrintedFloats.{heights-same}
-use Rattle.promises.proofs.OrderRecords.{distinct, lift-long, cure-long, finish-long, Head, There, there, lift-there, cure-there, finish-there}
-use Rattle.promises.proofs.OrderStates.{stateOf, liftedBy, Flat, grown-flat, not-whole, may-usable, lift-next, cure-next, finish-next, Due, due, few-layers, may-low}
+use Rattle.promises.proofs.PrintedRecords.{distinct, lift-long, cure-long, finish-long, Head, There, there, lift-there, cure-there, finish-there}
+use Rattle.promises.proofs.PrintedStates.{stateOf, liftedBy, Flat, grown-flat, not-whole, may-usable, lift-next, cure-next, finish-next, Due, due, few-layers, may-low}
 
 -- ---- checks that all say the same
 

@@ -2,12 +2,12 @@
 -- and the file of the sequence, so that reading it gives the orders of the sequence's records, one after the other, and past the last the finish.
 -- Assumes nothing.
 use mathlib.Core.Path.{_≡_, refl, sym, ap, _∙_}
-use mathlib.Core.List.{List, [], _∷_, _++_, append-assoc}
+use mathlib.Core.List.{List, [], _∷_, _++_}
 use Prim.Native.Nat.{ℕ, zero, suc, _+_, _*_, _≤_, _<_}
 use native.Mathlib.Omega.{arith}
 use lib.IntN.{ℤ, natAbs, _-ℤ_}
-use lib.ListN.{length, getD, take, drop, length-append}
-use lib.Seq.{take-at}
+use lib.ListN.{length, getD, take, drop}
+use lib.Seq.{take-at, drop-at}
 use Rattle.paper.specs.Sequence.{_!_, count, thickness}
 use Rattle.plate.specs.Call.{answerOf, leftBy}
 use Rattle.plate.specs.Refusal.{done}
@@ -17,19 +17,19 @@ use Rattle.record.specs.Written.{bytes16, bytes32}
 use Rattle.record.proofs.Spelled.{bytes-none, bytes-append, bytes-16, bytes-32, bytes-framed}
 use Rattle.printed.specs.Possible.{cureOf}
 use Rattle.printed.specs.Records.{Record, lift, cure, finish}
-use Rattle.printed.specs.Paper.{Orderable, layersTo, fileOf}
+use Rattle.printed.specs.Paper.{Orderable, fileOf}
 use Rattle.printed.specs.Bytes.{bytesOf}
 use Rattle.printed.proofs.Orders.{file-length, lift-at, cure-at, finish-at}
 use Rattle.orders.specs.Layer.{heightBits, cureBits}
 use Rattle.orders.specs.Kinds.{liftKind, cureKind, finishKind}
 use Rattle.orders.specs.Written.{recordBytes, orderBytes, fileSize}
 use Rattle.orders.specs.Order.{orderOf, recordAt}
-use Rattle.orders.specs.Reading.{reading}
-use Rattle.orders.specs.Writing.{filing, writing}
+use Rattle.orders.specs.Reading.{readingOrder}
+use Rattle.orders.specs.Writing.{filing, writingOrders}
+use Rattle.orders.proofs.Records.{length-file}
 use Rattle.promises.specs.Printing.{Lent, WrittenThenRead}
-use Rattle.promises.proofs.OrderRecords.{lift-long, cure-long, finish-long}
-use Rattle.promises.proofs.OrdersRead.{reads-exactly}
-use Rattle.promises.proofs.OrdersWritten.{writes-exactly}
+use Rattle.promises.proofs.PrintedRead.{reads-exactly}
+use Rattle.promises.proofs.PrintedWritten.{writes-exactly}
 
 -- ---- the order at a number
 
@@ -72,23 +72,9 @@ module _ (step : ℕ) where
     unfolding orderBytes
     bytes-orders = bytes-records (fileOf cures zs)
 
-    -- ---- and so many
-
-    length-layers : (k : ℕ) (rs : List Record) → length (bytesOf code (layersTo cures zs k ++ rs)) ≡ 16 * k + length (bytesOf code rs)
-    length-layers zero rs = omega arith
-    length-layers (suc k) rs =
-        let up = lift (natAbs (zs ! suc k -ℤ zs ! 0)) in
-        let on = cure (cureOf cures (thickness zs k)) in
-        ap (λ (us : List Record). length (bytesOf code us)) (append-assoc (layersTo cures zs k) (up ∷ on ∷ []) rs)
-        ∙ length-layers k (up ∷ on ∷ rs)
-        ∙ omega
-        (arith, length-append (code up) (code on ++ bytesOf code rs), length-append (code on) (bytesOf code rs), lift-long step (natAbs (zs ! suc k -ℤ zs ! 0)), cure-long step (cureOf cures (thickness zs k)))
-
     pub length-orders : length (orderBytes step cures zs) ≡ 16 * count zs + 6
-    unfolding orderBytes
-    length-orders =
-        length-layers (count zs) (finish (count zs) ∷ [])
-        ∙ omega (arith, length-append (code (finish (count zs))) [], finish-long step (count zs))
+    unfolding fileSize
+    length-orders = length-file step cures zs
 
 -- ---- the trip
 
@@ -96,16 +82,15 @@ module _ {N T step : ℕ} {cures : List ℕ} (l : Lent N T step cures) {zs : Lis
   abbrev file : List ℕ
   file = orderBytes step cures zs
 
-  read-at : (number : ℕ) (r : Record) → recordAt (fileOf cures zs) number ≡ r → answerOf (reading N T step cures file number) ≡ done (orderOf step r)
+  read-at : (number : ℕ) (r : Record) → recordAt (fileOf cures zs) number ≡ r → answerOf (readingOrder N T step cures file number) ≡ done (orderOf step r)
   read-at number r e =
       reads-exactly l file (bytes-orders step cures zs) number .accepts (orderOf step r) .1 (zs, o, refl, ap (orderOf step) (sym e))
 
-  front : (out : List ℕ) → 16 * count zs + 6 ≤ length out → take (16 * count zs + 6) (leftBy (writing N T step cures zs out)) ≡ file
-  unfolding writing filing fileSize
-  front out room =
+  left : (out : List ℕ) → 16 * count zs + 6 ≤ length out → leftBy (writingOrders N T step cures zs out) ≡ file ++ drop (16 * count zs + 6) out
+  unfolding writingOrders filing fileSize
+  left out room =
       let e = writes-exactly l zs out .writes (fileSize (count zs)) .1 (o, refl, room) in
-      let f = finished (writing N T step cures zs out) (fileSize (count zs)) e in
-      ap (take (16 * count zs + 6)) (f .2) ∙ take-at file (drop (fileSize (count zs)) out) (16 * count zs + 6) (length-orders step cures zs)
+      finished (writingOrders N T step cures zs out) (fileSize (count zs)) e .2
 
   pub written-then-read : (out : List ℕ) → 16 * count zs + 6 ≤ length out → WrittenThenRead N T step cures zs out
   written-then-read out room =
@@ -113,7 +98,8 @@ module _ {N T step : ℕ} {cures : List ℕ} (l : Lent N T step cures) {zs : Lis
       let n = file-length cures zs in
       let d = finish 0 in record {
         length-is = length-orders step cures zs;
-        file = front out room;
+        file = ap (take (16 * count zs + 6)) (left out room) ∙ take-at file (drop (16 * count zs + 6) out) (16 * count zs + 6) (length-orders step cures zs);
+        kept = ap (drop (16 * count zs + 6)) (left out room) ∙ drop-at file (drop (16 * count zs + 6) out) (16 * count zs + 6) (length-orders step cures zs);
         lifts = λ k u. read-at (2 * k) (lift (natAbs (zs ! suc k -ℤ zs ! 0))) (record-at d rs (2 * k) (omega arith) ∙ lift-at cures zs d k u);
         cures-for = λ k u. read-at (2 * k + 1) (cure (cureOf cures (thickness zs k))) (record-at d rs (2 * k + 1) (omega arith) ∙ cure-at cures zs d k u);
         finishes = λ number u. read-at number (finish (count zs)) (record-past d rs (2 * count zs) number (omega arith) u ∙ finish-at cures zs d);

@@ -29,11 +29,11 @@ use Rattle.orders.specs.Written.{recordBytes, orderBytes}
 use Rattle.orders.specs.Order.{orderOf, recordAt}
 use Rattle.orders.specs.File.{fileChecks, layersIn}
 use Rattle.orders.specs.Lent.{lentChecks}
-use Rattle.orders.specs.Reading.{orderIn, reading}
+use Rattle.orders.specs.Reading.{orderIn, readingOrder}
 use Rattle.orders.specs.declared.Order.{Order}
 use Rattle.promises.specs.Printing.{Lent, ReadsExactly}
-use Rattle.promises.proofs.OrderRecords.{distinct}
-use Rattle.promises.proofs.OrderFiles.{Outcome, file-judged}
+use Rattle.promises.proofs.PrintedRecords.{distinct}
+use Rattle.promises.proofs.PrintedFiles.{Outcome, file-judged}
 
 pub lent-fine : {N T step : ℕ} {cures : List ℕ} → Lent N T step cures → first (lentChecks N T step cures) ≡ none
 unfolding lentChecks
@@ -46,10 +46,10 @@ module _ {N T step : ℕ} {cures : List ℕ} (l : Lent N T step cures) (file : L
   read = orders cures (layersIn T step cures file)
 
   abbrev answer : Told Order
-  answer = answerOf (reading N T step cures file number)
+  answer = answerOf (readingOrder N T step cures file number)
 
   answered : (o : Option Numbered) → first (fileChecks N T step cures file) ≡ o → answer ≡ toldBy o (orderOf step (recordAt read number))
-  unfolding reading orderIn
+  unfolding readingOrder orderIn
   answered o e =
       decided-passed (lentChecks N T step cures) (fileChecks N T step cures file) (orderIn T step cures file number) (lent-fine l)
       ∙ ap (λ (o : Option Numbered). toldBy o (orderIn T step cures file number)) e
