@@ -94,7 +94,7 @@ pub enum Layer {
 
 // ---- a layer as printed
 
-// The one way to a layer as printed, for writer and reader.
+// The one way to a layer as printed, for writer and reader. What it asks for keeps every product below 2^24, so that nothing is rounded.
 fn as_printed(rise: usize, thickness: usize, step: u32, cure: u16) -> Printed
     requires { ⌜ (rise < 1024) × (thickness < 1024) × (step ≤ 8192) ⌝ }
     ensures { λ r. ⌜ (r ≡ printedLayer rise thickness step cure) × Exactly r rise thickness step cure ⌝ }
