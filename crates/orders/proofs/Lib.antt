@@ -7,3 +7,4 @@ pub mod Lifts
 pub mod Judged
 pub mod Walk
 pub mod Readings
+pub mod Cases
