@@ -1,36 +1,10 @@
 // A line of the list, and the numbers in it. Words among the numbers are for the reader.
-ghost use Prim.Native.Nat.{_≤_};
-ghost use lib.ListN.{length};
+use cases::find;
 
 const GREATEST: u64 = 18446744073709551615;
 
 // From here on a number stands for one below 0.
 const BELOW: u64 = 9223372036854775808;
-
-// A part of a line; the whole of it where there is no such part.
-pub(crate) fn part(line: &[u8], from: usize, to: usize) -> &[u8] {
-    if from <= to {
-        if to <= line.len() {
-            return &line[from..to];
-        }
-    }
-    line
-}
-
-// The first such character from a place on, or the line's end.
-pub(crate) fn find(line: &[u8], from: usize, character: u8) -> usize
-    requires { ⌜ from ≤ length (now line) ⌝ }
-    ensures { λ r. ⌜ (from ≤ r) × (r ≤ length (now (line .entry))) ⌝ }
-{
-    let mut i = from;
-    while i < line.len() {
-        if line[i] == character {
-            return i;
-        }
-        i += 1;
-    }
-    line.len()
-}
 
 pub(crate) fn begins(line: &[u8], word: &[u8]) -> bool {
     let mut i = 0;

@@ -2,8 +2,6 @@
 // begins with a call's name makes that call, and one that begins with a number sign is a heading.
 use crate::calls;
 use crate::line::begins;
-use crate::line::find;
-use crate::line::part;
 use crate::memory::lay8;
 use crate::memory::lay32;
 use crate::memory::lay64;
@@ -11,6 +9,8 @@ use crate::memory::show8;
 use crate::memory::show32;
 use crate::memory::show64;
 use crate::show;
+use cases::find;
+use cases::part;
 
 // A heading, and the calls that are lent neither table nor sheet.
 fn alone(line: &[u8]) {

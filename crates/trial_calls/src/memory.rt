@@ -1,13 +1,13 @@
 // Buffers of each width: the part of one that is lent, what is laid into one, and what of one is shown.
 ghost use Prim.Native.Nat.{_≤_};
 use crate::line::Number;
-use crate::line::find;
 use crate::line::in8;
 use crate::line::in16;
 use crate::line::in32;
 use crate::line::number_from;
 use crate::line::signed;
 use crate::show;
+use cases::find;
 
 // Up to so many elements are shown one by one, more by a digest.
 const FEW: usize = 100;

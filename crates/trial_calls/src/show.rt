@@ -1,7 +1,7 @@
 // What is printed: words, numbers and answers.
-use crate::line::find;
 use crate::line::numbers_in;
-use crate::line::part;
+use cases::find;
+use cases::part;
 use libc::STDOUT_FILENO;
 use plate::refusal::Refusal;
 use text::put_signed;

@@ -1,7 +1,6 @@
 // Joins and plans tables that come as files, with the compiled library: by the list of cases that stands in `stdin`, with a line printed for
 // each. All that a call is lent is of one length in every case, with room for small tables.
-mod cases;
-mod given;
+mod list;
 mod plans;
 mod show;
 mod steps;
@@ -11,7 +10,7 @@ fn run(list: &[u8]) {
     let mut table = [0u32; 128];
     let mut other = [0u32; 128];
     let mut output = [0u8; 1024];
-    cases::run(list, &mut given, &mut table, &mut other, &mut output);
+    list::run(list, &mut given, &mut table, &mut other, &mut output);
 }
 
 fn main() {

@@ -1,5 +1,5 @@
 // What is printed: words, numbers, refusals, and a table with what goes with it.
-use crate::given::part;
+use cases::part;
 use libc::STDOUT_FILENO;
 use plate::head::Head;
 use plate::refusal::Refusal;

@@ -3,6 +3,10 @@
 use crate::bytes;
 use crate::numbers;
 use crate::show;
+use cases::change;
+use cases::fill;
+use cases::front;
+use cases::part;
 use orders::read_order;
 use orders::write_orders;
 use plate::refusal::Answer;
@@ -26,21 +30,21 @@ fn show_order(given: &[u8], cure: &[u16], file: &[u8], number: u32) {
 pub(crate) fn read(given: &[u8], cure: &mut [u16]) {
     let times = quad(given, 12) as usize;
     numbers::lay_times(cure, times, given, 20);
-    let file = bytes::part(given, 20 + 2 * times, given.len());
+    let file = part(given, 20 + 2 * times, given.len());
     show_order(given, numbers::part(cure, times), file, quad(given, 16));
 }
 
 fn written(given: &[u8], cure: &[u16], sequence: &[i32], output: &mut [u8]) {
     let lent = quad(given, 20) as usize;
     let marked = std::num::wrapping_add_usize(lent, PAST);
-    bytes::fill(output, marked);
+    fill(output, marked);
     let answer = write_orders(
         quad(given, 0),
         quad(given, 4),
         quad(given, 8),
         cure,
         sequence,
-        bytes::front(output, lent),
+        front(output, lent),
     );
     show::answer(answer);
     match answer {
@@ -64,7 +68,7 @@ fn write_given(
     let count = quad(given, 16) as usize;
     numbers::lay_times(cure, times, given, from);
     let after = std::num::wrapping_add_usize(from, 2 * times);
-    numbers::lay(sequence, count, bytes::part(given, after, given.len()));
+    numbers::lay(sequence, count, part(given, after, given.len()));
     written(
         given,
         numbers::part(cure, times),
@@ -94,7 +98,7 @@ fn read_all(given: &[u8], asked: &[u8], cure: &[u16], file: &[u8]) {
 // numbers of the orders that are read.
 pub(crate) fn round(given: &[u8], cure: &mut [u16], sequence: &mut [i32], output: &mut [u8]) {
     write_given(given, 36, cure, sequence, output);
-    bytes::change(
+    change(
         output,
         quad(given, 28) as usize,
         (quad(given, 32) % 256) as u8,
@@ -102,7 +106,7 @@ pub(crate) fn round(given: &[u8], cure: &mut [u16], sequence: &mut [i32], output
     show::text(b"; back");
     let times = quad(given, 12) as usize;
     let count = quad(given, 16) as usize;
-    let asked = bytes::part(given, 36 + 2 * times + 4 * count, given.len());
-    let file = bytes::part(output, 0, quad(given, 24) as usize);
+    let asked = part(given, 36 + 2 * times + 4 * count, given.len());
+    let file = part(output, 0, quad(given, 24) as usize);
     read_all(given, asked, numbers::part(cure, times), file);
 }

@@ -2,7 +2,7 @@
 // is lent is the front of memory that is as long as the longest of a case, with some room past it.
 mod bytes;
 mod calls;
-mod cases;
+mod list;
 mod numbers;
 mod show;
 
@@ -11,7 +11,7 @@ fn run(list: &[u8]) {
     let mut cure = [0u16; 256];
     let mut sequence = [0i32; 1024];
     let mut output = [0u8; 16384];
-    cases::run(list, &mut given, &mut cure, &mut sequence, &mut output);
+    list::run(list, &mut given, &mut cure, &mut sequence, &mut output);
 }
 
 fn main() {

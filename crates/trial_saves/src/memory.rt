@@ -1,8 +1,6 @@
 // Lent memory: what is laid into it, the part of it that is lent, and what of it is shown.
-ghost use mathlib.Core.Path.{_≡_};
-ghost use Prim.Native.Nat.{ℕ, _+_, _%_, _≤_, _<_};
-ghost use lib.ListN.{getD};
 use crate::show;
+use cases::end_of_marks;
 use record::read_words;
 
 // Up to so many bytes are shown one by one; of more their sum, and so many from the start and up to the end.
@@ -29,48 +27,12 @@ pub(crate) fn lay(
     from
 }
 
-// The front that is lent, of a list to be read and of an output to be written; the whole where it is no longer than that.
+// The front that is lent to be read; the whole where it is no longer than that.
 pub(crate) fn part(list: &[u16], size: usize) -> &[u16] {
     if size <= list.len() {
         return &list[..size];
     }
     list
-}
-
-pub(crate) fn front(output: &mut [u8], size: usize) -> &mut [u8] {
-    if size <= output.len() {
-        return &mut output[..size];
-    }
-    output
-}
-
-// What stands at an index of an output before a call: it differs from one index to the next.
-fn mark(i: usize) -> u8
-    ensures { λ r. ⌜ r ≡ 200 + i % 50 ⌝ }
-{
-    (200 + i % 50) as u8
-}
-
-pub(crate) fn fill(output: &mut [u8], size: usize) {
-    let mut i = 0;
-    while i < output.len() && i < size {
-        output[i] = mark(i);
-        i += 1;
-    }
-}
-
-// The end of the marks that stand from one index on, up to another.
-fn end_of_marks(output: &[u8], from: usize, to: usize) -> usize
-    ensures { λ r. ⌜ ((i : ℕ) → from ≤ i → i < r → getD (now (output .entry)) i 0 ≡ 200 + i % 50) ⌝ }
-{
-    let mut i = from;
-    while i < output.len() && i < to {
-        if output[i] != mark(i) {
-            return i;
-        }
-        i += 1;
-    }
-    i
 }
 
 pub(crate) fn show_kept(output: &[u8], from: usize, to: usize) {

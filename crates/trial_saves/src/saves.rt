@@ -1,12 +1,12 @@
 // A job file written into an output that holds marks before; and a job file read record by record, and written again from what was read.
-use crate::memory::fill;
-use crate::memory::front;
 use crate::memory::lay;
 use crate::memory::part;
 use crate::memory::show_kept;
 use crate::memory::show_list;
 use crate::memory::show_written;
 use crate::show;
+use cases::fill;
+use cases::front;
 use job::Asked;
 use job::Cursor;
 use job::Read;

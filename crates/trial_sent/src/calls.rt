@@ -3,6 +3,10 @@
 use crate::bytes;
 use crate::cells;
 use crate::show;
+use cases::change;
+use cases::fill;
+use cases::front;
+use cases::part;
 use plate::head::Head;
 use plate::head::Tabled;
 use plate::refusal::Answer;
@@ -32,8 +36,8 @@ fn received(file: &[u8], lent: usize, size: usize, table: &mut [u32]) -> Tabled 
 // Writes a table into an output.
 fn sent(head: Head, table: &[u32], lent: usize, output: &mut [u8]) {
     let marked = std::num::wrapping_add_usize(lent, PAST);
-    bytes::fill(output, marked);
-    let answer = write_table(table, head, bytes::front(output, lent));
+    fill(output, marked);
+    let answer = write_table(table, head, front(output, lent));
     show::answer(answer);
     match answer {
         Answer::Done(size) => {
@@ -48,7 +52,7 @@ fn sent(head: Head, table: &[u32], lent: usize, output: &mut [u8]) {
 // file's length.
 pub(crate) fn read(given: &[u8], table: &mut [u32], output: &mut [u8]) {
     let lent = quad(given, 0) as usize;
-    let file = bytes::part(given, 8, given.len());
+    let file = part(given, 8, given.len());
     let answer = received(file, lent, quad(given, 4) as usize, table);
     if let Tabled::Done(head) = answer {
         show::text(b"; again");
@@ -65,7 +69,7 @@ fn send_given(given: &[u8], from: usize, table: &mut [u32], output: &mut [u8]) {
         columns: quad(given, 8),
     };
     let lent = quad(given, 12) as usize;
-    let stated = bytes::part(given, from, given.len());
+    let stated = part(given, from, given.len());
     cells::lay(table, lent, stated, quad(given, 20) as usize);
     sent(
         head,
@@ -83,14 +87,14 @@ pub(crate) fn write(given: &[u8], table: &mut [u32], output: &mut [u8]) {
 // is lent then, and the number of the file's cells.
 pub(crate) fn round(given: &[u8], table: &mut [u32], output: &mut [u8]) {
     send_given(given, 44, table, output);
-    bytes::change(
+    change(
         output,
         quad(given, 28) as usize,
         (quad(given, 32) % 256) as u8,
     );
     show::text(b"; back");
     received(
-        bytes::part(output, 0, quad(given, 24) as usize),
+        part(output, 0, quad(given, 24) as usize),
         quad(given, 36) as usize,
         quad(given, 40) as usize,
         table,

@@ -3,6 +3,7 @@ ghost use mathlib.Core.Path.{_≡_};
 ghost use Prim.Native.Nat.{ℕ, _+_, _%_, _≤_, _<_};
 ghost use lib.ListN.{getD};
 use crate::show;
+use cases::digested;
 use record::quad;
 
 // Up to so many cells are shown one by one; of more a digest, and so many from the start and up to the end.
@@ -89,7 +90,7 @@ fn digest(table: &[u32], size: usize) -> u64 {
     let mut digest = 0;
     let mut i = 0;
     while i < table.len() && i < size {
-        digest = show::digested(digest, wide(table[i]));
+        digest = digested(digest, wide(table[i]));
         i += 1;
     }
     digest

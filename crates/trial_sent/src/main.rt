@@ -2,15 +2,15 @@
 // is lent is the front of memory that is as long as the longest of a case, with some room past it.
 mod bytes;
 mod calls;
-mod cases;
 mod cells;
+mod list;
 mod show;
 
 fn run(list: &[u8]) {
     let mut given = [0u8; 16384];
     let mut table = [0u32; 18400];
     let mut output = [0u8; 77100];
-    cases::run(list, &mut given, &mut table, &mut output);
+    list::run(list, &mut given, &mut table, &mut output);
 }
 
 fn main() {
