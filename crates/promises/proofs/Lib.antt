@@ -31,3 +31,4 @@ pub mod PrintedRead
 pub mod PrintedWritten
 pub mod PrintedTrip
 pub mod PrintedLayers
+pub mod Printing

@@ -15,6 +15,7 @@ use Rattle.paper.specs.Motor.{MotorHeight}
 use Rattle.paper.specs.Sequence.{_!_, count, thickness, Admissible}
 use Rattle.plate.specs.Call.{answerOf, leftBy}
 use Rattle.plate.specs.Refusal.{done, refused}
+use Rattle.record.specs.Bytes.{Bytes}
 use Rattle.printed.specs.Possible.{cureOf}
 use Rattle.printed.specs.Paper.{Orderable, fileOf}
 use Rattle.printed.specs.Bytes.{FaultAt}
@@ -87,3 +88,11 @@ pub record WrittenThenRead (N T step : ℕ) (cures : List ℕ) (zs : List ℤ) (
   pub cures-for : (k : ℕ) → k < count zs → answerOf (readingOrder N T step cures (orderBytes step cures zs) (2 * k + 1))
       ≡ done (Cure (printedLayer (natAbs (zs ! suc k -ℤ zs ! 0)) (thickness zs k) step (cureOf cures (thickness zs k)) .cure))
   pub finishes : (number : ℕ) → 2 * count zs ≤ number → answerOf (readingOrder N T step cures (orderBytes step cures zs) number) ≡ done (Finish (count zs))
+
+-- DOCUMENT 02 E), a field for each of its sentences, where what both calls are handed is in order
+pub record PrintingOrders (N T step : ℕ) (cures : List ℕ) : Type 0 where
+  pub floats : FloatsExactly N T step
+  pub layers : (zs : List ℤ) → Orderable N T cures zs → PrintsExactly N T step cures zs
+  pub writes : (zs : List ℤ) (out : List ℕ) → WritesExactly N T step cures zs out
+  pub reads : (file : List ℕ) → Bytes file → (number : ℕ) → ReadsExactly N T step cures file number
+  pub trips : (zs : List ℤ) → Orderable N T cures zs → (out : List ℕ) → 16 * count zs + 6 ≤ length out → WrittenThenRead N T step cures zs out
