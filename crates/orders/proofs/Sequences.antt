@@ -1,10 +1,10 @@
 -- A sequence that passes 13 climbs: every difference is a thickness, so that each boundary lies above the one before and all of them over the datum,
--- and none is above N + tmax - 1. So rises and thicknesses are differences of datum heights, and there are no more layers than units. Assumes nothing.
+-- and none is above N + tmax - 1. So distances are differences of datum heights, and there are no more layers than units. Assumes nothing.
 use mathlib.Core.Path.{_≡_, sym}
 use mathlib.Core.Bool.{true, false, not}
 use mathlib.Core.List.{List, []}
 use mathlib.Core.Option.{none}
-use Prim.Native.Nat.{ℕ, zero, suc, _-_, _≤_, _<_}
+use Prim.Native.Nat.{ℕ, zero, suc, _+_, _-_, _≤_, _<_}
 use native.Mathlib.Omega.{arith}
 use borrow.Author.Tests.{ltb-false, not-false}
 use lib.Dec.{ltb}
@@ -15,7 +15,7 @@ use Rattle.lists.proofs.Checks.{or-false, first-none}
 use Rattle.lists.proofs.Search.{lowest-before}
 use Rattle.paper.specs.Limits.{largestBound}
 use Rattle.paper.specs.Layer.{tmax}
-use Rattle.paper.specs.Sequence.{_!_, count, thickness}
+use Rattle.paper.specs.Sequence.{_!_, count}
 use Rattle.paper.proofs.Thicknesses.{tmax-le, allowed-from}
 use Rattle.plate.specs.Datum.{datum}
 use Rattle.sequence.specs.Sequence.{starts}
@@ -59,15 +59,18 @@ module _ (zs : List ℤ) (c : Climbs zs) where
   pub layers-are : count zs ≡ length zs - 1
   layers-are = count-is zs
 
-  pub above : (k : ℕ) → k < count zs → datum (zs ! 0) < datum (zs ! suc k)
-  above zero l = c .rises 0 l
-  above (suc k) l = omega (arith, above k (omega arith), c .rises (suc k) l)
+  above : (d k : ℕ) → k + suc d ≤ count zs → datum (zs ! k) < datum (zs ! (k + suc d))
+  above zero k l = let e : k + 1 ≡ suc k = omega arith in rw e (c .rises k (omega arith))
+  above (suc d) k l =
+      let e : k + suc (suc d) ≡ suc (k + suc d) = omega arith in rw e (omega (arith, above d k (omega arith), c .rises (k + suc d) (omega arith)))
 
-  pub rise-is : (k : ℕ) → k < count zs → natAbs (zs ! suc k -ℤ zs ! 0) ≡ datum (zs ! suc k) - datum (zs ! 0)
-  rise-is k l = rise (zs ! 0) (zs ! suc k) (c .within 0 (omega arith) .0) (above k l)
+  -- of any two boundaries, the higher lies above the lower, by the difference of their datum heights
+  module _ (j k : ℕ) (l : j < k) (m : k ≤ count zs) where
+    pub rises-to : datum (zs ! j) < datum (zs ! k)
+    rises-to = let e : j + suc (k - j - 1) ≡ k = omega arith in rw e at (above (k - j - 1) j (omega arith))
 
-  pub thickness-is : (k : ℕ) → k < count zs → thickness zs k ≡ datum (zs ! suc k) - datum (zs ! k)
-  thickness-is k l = rise (zs ! k) (zs ! suc k) (c .within k (omega arith) .0) (c .rises k l)
+    pub distance-is : natAbs (zs ! k -ℤ zs ! j) ≡ datum (zs ! k) - datum (zs ! j)
+    distance-is = rise (zs ! j) (zs ! k) (c .within j (omega arith) .0) rises-to
 
   -- no more layers than units
   under : (k : ℕ) → k ≤ count zs → k ≤ datum (zs ! k)

@@ -3,14 +3,14 @@
 ghost use mathlib.Core.Path.{_≡_};
 ghost use mathlib.Core.Bool.{cond, _&&_};
 ghost use mathlib.Core.List.{_++_};
-ghost use Prim.Native.Nat.{suc, _+_, _*_, _≤_, _<_};
+ghost use Prim.Native.Nat.{_+_, _*_, _≤_, _<_};
 ghost use lib.Dec.{ltb, eqb};
 ghost use lib.IntN.{natAbs, _-ℤ_};
 ghost use lib.ListN.{length};
 ghost use lib.Seq.{sets};
 ghost use Rattle.lists.specs.Checks.{first};
 ghost use Rattle.lists.specs.Search.{lowest};
-ghost use Rattle.paper.specs.Sequence.{_!_, count, thickness};
+ghost use Rattle.paper.specs.Sequence.{_!_, count};
 ghost use Rattle.plate.specs.Call.{Does};
 ghost use Rattle.plate.specs.Checked.{saidBy};
 ghost use Rattle.plate.specs.Refusal.{told, decided};
@@ -166,22 +166,13 @@ fn check_lent(height: u32, members: u32, step: u32, cure: &[u16]) -> Made
 
 // ---- the writer
 
-// How far the layer from boundary k up ends above the first boundary.
-fn rise_over(sequence: &[i32], k: usize) -> usize
+// How far one boundary is above another.
+fn distance(sequence: &[i32], from: usize, to: usize) -> usize
     requires { ⌜ Climbs (now sequence) ⌝ }
-    requires { ⌜ k + 1 < length (now sequence) ⌝ }
-    ensures { λ r. ⌜ (r ≡ natAbs (now (sequence .entry) ! suc k -ℤ now (sequence .entry) ! 0)) × (r < 1024) ⌝ }
+    requires { ⌜ (from < to) × (to < length (now sequence)) ⌝ }
+    ensures { λ r. ⌜ (r ≡ natAbs (now (sequence .entry) ! to -ℤ now (sequence .entry) ! from)) × (1 ≤ r) × (r < 1024) ⌝ }
 {
-    datum_of(sequence[k + 1]) - datum_of(sequence[0])
-}
-
-// The thickness of the layer from boundary k up.
-fn thickness_of(sequence: &[i32], k: usize) -> usize
-    requires { ⌜ Climbs (now sequence) ⌝ }
-    requires { ⌜ k + 1 < length (now sequence) ⌝ }
-    ensures { λ r. ⌜ (r ≡ thickness (now (sequence .entry)) k) × (1 ≤ r) × (r < 1024) ⌝ }
-{
-    datum_of(sequence[k + 1]) - datum_of(sequence[k])
+    datum_of(sequence[to]) - datum_of(sequence[from])
 }
 
 // The first layer, from 0, whose cure time is 0, and the number of layers where there is none.
@@ -192,7 +183,7 @@ fn first_uncured(cure: &[u16], sequence: &[i32]) -> usize
     let count = sequence.len() - 1;
     let mut k: usize = 0;
     while k < count {
-        if entry_of(cure, thickness_of(sequence, k)) == 0 {
+        if entry_of(cure, distance(sequence, k, k + 1)) == 0 {
             return k;
         }
         k += 1;
@@ -230,8 +221,8 @@ fn write_layers(out: &mut [u8], step: u32, cure: &[u16], sequence: &[i32])
     let count = sequence.len() - 1;
     let mut k: usize = 0;
     while k < count {
-        let rise = rise_over(sequence, k);
-        let t = thickness_of(sequence, k);
+        let rise = distance(sequence, 0, k + 1);
+        let t = distance(sequence, k, k + 1);
         write_layer(out, 16 * k, rise, t, step, entry_of(cure, t));
         k += 1;
     }

@@ -3,14 +3,15 @@ use mathlib.Core.Path.{_≡_, sym, ap, _∙_}
 use mathlib.Core.Bool.{false}
 use Prim.Native.Nat.{ℕ, _-_, _≤_, _<_}
 use native.Mathlib.Omega.{arith}
+use native.Mathlib.Numerals.{add-one}
 use borrow.Author.Needs.{needs}
 use borrow.Author.Tests.{eq-eqb, ne-eqb}
 use borrow.Author.Count.{below-more}
 use lib.Dec.{eqb}
 use mathlib.Core.List.{List}
-use lib.IntN.{ℤ}
+use lib.IntN.{ℤ, natAbs, _-ℤ_}
 use Rattle.lists.proofs.Search.{found, missed}
-use Rattle.paper.specs.Sequence.{count, thickness}
+use Rattle.paper.specs.Sequence.{_!_, count, thickness}
 use Rattle.printed.specs.Possible.{cureOf}
 use Rattle.orders.specs.Writing.{firstUncured}
 use Rattle.orders.proofs.Sequences.{layers-are}
@@ -38,7 +39,8 @@ module _ (m : tie.After-entry-of Inv-loop μ-loop) where
   k = m .before .before .before .loop .k
 
   entry-is : m .entry-of .result ≡ cureOf cures (thickness zs k)
-  entry-is = m .entry-of .ensures ∙ ap (cureOf cures) (m .before .thickness-of .ensures .0)
+  entry-is =
+      m .entry-of .ensures ∙ ap (cureOf cures) (m .before .distance .ensures .0 ∙ ap (λ (i : ℕ). natAbs (zs ! i -ℤ zs ! k)) (add-one k))
 
 returns : tie.Need-returns Inv-loop μ-loop
 unfolding firstUncured
@@ -68,8 +70,9 @@ first-uncured-spec =
     μ-loop
     (λ c. omega (arith, c .before .pre .layered))
     (λ c. (omega arith, λ j l. absurd (omega arith)))
-    (λ c κs. let a = c .before .before .before in (a .pre, omega (arith, a .pre .layered)))
-    (λ c κs. c .thickness-of .ensures .1)
+    (λ c. search needs)
+    (λ c κs. let a = c .before .before .before in (a .pre, (omega arith, omega (arith, a .pre .layered))))
+    (λ c κs. c .distance .ensures .1)
     returns
     (λ c. search needs)
     (λ c. search needs)

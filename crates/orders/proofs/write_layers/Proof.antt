@@ -1,14 +1,14 @@
 -- `write_layers` meets its contract. The loop's invariant: the records of the layers below this one are stored. Assumes nothing.
 use mathlib.Core.Path.{_≡_, refl, sym, ap, ap₂, _∙_}
 use mathlib.Core.List.{List}
-use Prim.Native.Nat.{ℕ, _+_, _-_, _*_, _≤_, _<_}
+use Prim.Native.Nat.{ℕ, suc, _+_, _-_, _*_, _≤_, _<_}
 use native.Mathlib.Omega.{arith}
 use native.Mathlib.Numerals.{add-one}
 use borrow.Author.Needs.{needs}
-use lib.IntN.{ℤ}
+use lib.IntN.{ℤ, natAbs, _-ℤ_}
 use lib.ListN.{length}
 use lib.Seq.{sets, length-sets}
-use Rattle.paper.specs.Sequence.{count}
+use Rattle.paper.specs.Sequence.{_!_, count}
 use Rattle.printed.specs.Possible.{cureOf}
 use Rattle.printed.specs.Paper.{layersTo}
 use Rattle.printed.specs.Bytes.{bytesOf}
@@ -27,7 +27,7 @@ abbrev μ-loop : tie.MeasureT-loop
 μ-loop out₀ step cure sequence layers k₀ out k = layers - k
 
 -- this layer
-module _ (m : tie.After-thickness-of Inv-loop μ-loop) where
+module _ (m : tie.After-distance2 Inv-loop μ-loop) where
   abbrev a : tie.Start Inv-loop μ-loop
   a = m .before .before .before .before .before .before
 
@@ -46,13 +46,17 @@ module _ (m : tie.After-thickness-of Inv-loop μ-loop) where
   room : 16 * k + 16 ≤ length (a .args .out .now)
   room = omega (arith, there, a .pre .1)
 
+  -- the distance of the boundary k + 1 from another
+  up-to : (j : ℕ) → natAbs (zs ! (k + 1) -ℤ zs ! j) ≡ natAbs (zs ! suc k -ℤ zs ! j)
+  up-to j = ap (λ (i : ℕ). natAbs (zs ! i -ℤ zs ! j)) (add-one k)
+
   small : k ≤ 600
   small = omega (arith, there, few-layers zs (a .pre .0 .0))
 
 layer-requires : tie.Need-write-layer-requires Inv-loop μ-loop
 layer-requires c κs =
     let m = c .before .before in
-    ((m .before .rise-over .ensures .1, m .thickness-of .ensures .2, a m .pre .0 .1), omega (arith, room m, m .before .before .before .loop .inv .1))
+    ((m .before .distance .ensures .2, m .distance2 .ensures .2, a m .pre .0 .1), omega (arith, room m, m .before .before .before .loop .inv .1))
 
 loop-again : tie.Need-loop-again Inv-loop μ-loop
 loop-again c =
@@ -61,12 +65,12 @@ loop-again c =
     let m = e .before .before in
     let l = m .before .before .before .loop in
     let step = a m .args .step in
-    let now = layerBytes (heightBits step (m .before .rise-over .result)) (cureBits (e .entry-of .result)) in
-    let entry = e .entry-of .ensures ∙ ap (cureOf (cures m)) (m .thickness-of .ensures .0) in (
+    let now = layerBytes (heightBits step (m .before .distance .result)) (cureBits (e .entry-of .result)) in
+    let entry = e .entry-of .ensures ∙ ap (cureOf (cures m)) (m .distance2 .ensures .0 ∙ up-to m (k m)) in (
       omega arith,
       ap (λ (x : List ℕ). length x) (w .write-layer .ensures) ∙ length-sets (l .out) (16 * k m) now ∙ l .inv .1,
       w .write-layer .ensures
-          ∙ ap₂ (λ (x y : ℕ). sets (l .out) (16 * k m) (layerBytes (heightBits step x) (cureBits y))) (m .before .rise-over .ensures .0) entry
+          ∙ ap₂ (λ (x y : ℕ). sets (l .out) (16 * k m) (layerBytes (heightBits step x) (cureBits y))) (m .before .distance .ensures .0 ∙ up-to m 0) entry
           ∙ layer-stored step (cures m) (zs m) (a m .args .out .now) (l .out) (k m) (16 * k m) (l .inv .2) refl
           ∙ ap (λ (n : ℕ). sets (a m .args .out .now) 0 (bytesOf (recordBytes step) (layersTo (cures m) (zs m) n))) (sym (add-one (k m))),
     )
@@ -86,10 +90,12 @@ write-layers-spec =
     μ-loop
     (λ c. omega (arith, c .before .before .pre .0 .0 .layered))
     (λ c. (omega arith, refl, refl))
-    (λ c κs. let a = c .before .before .before .before in (a .pre .0 .0, omega (arith, a .pre .0 .0 .layered)))
-    (λ c κs. let a = c .before .before .before .before .before in (a .pre .0 .0, omega (arith, a .pre .0 .0 .layered)))
+    (λ c. search needs)
+    (λ c κs. let a = c .before .before .before .before in (a .pre .0 .0, (omega arith, omega (arith, a .pre .0 .0 .layered))))
+    (λ c. search needs)
+    (λ c κs. let a = c .before .before .before .before .before in (a .pre .0 .0, (omega arith, omega (arith, a .pre .0 .0 .layered))))
     (λ c. omega (arith, small (c .before)))
-    (λ c κs. c .before .thickness-of .ensures .1)
+    (λ c κs. c .before .distance2 .ensures .1)
     layer-requires
     (λ c. search needs)
     (λ c. search needs)
