@@ -65,10 +65,10 @@ read = (refl, refl, refl, refl)
 
 -- a byte less, a byte more, a float's neighbour and its negative, a finish after one layer; lifts to 2, 5 and 7 units
 pub refusals : (told (first-layer ++ (lifting 0xF0 0x40 ++ (curing 0x00 0x40 ++ (2 ∷ 0 ∷ 50 ∷ 0 ∷ 2 ∷ [])))) 0 ≡ refused 16 32)
-    × (told (worked ++ (0 ∷ [])) 0 ≡ refused 16 38)
-    × (told (lifting 0x71 0x40 ++ (curing 0x00 0x40 ++ finishing 1)) 0 ≡ refused 16 0)
-    × (told (lifting 0x70 0xC0 ++ (curing 0x00 0x40 ++ finishing 1)) 0 ≡ refused 16 0)
-    × (told (first-layer ++ finishing 1) 0 ≡ refused 16 16)
-    × (told (first-layer ++ (lifting 0x16 0x41 ++ (curing 0x20 0x40 ++ lifting 0x52 0x41))) 0 ≡ refused 16 32)
+    × (told (worked ++ (0 ∷ [])) 0 ≡ refused 21 38)
+    × (told (lifting 0x71 0x40 ++ (curing 0x00 0x40 ++ finishing 1)) 0 ≡ refused 21 0)
+    × (told (lifting 0x70 0xC0 ++ (curing 0x00 0x40 ++ finishing 1)) 0 ≡ refused 21 0)
+    × (told (first-layer ++ finishing 1) 0 ≡ refused 21 16)
+    × (told (first-layer ++ (lifting 0x16 0x41 ++ (curing 0x20 0x40 ++ lifting 0x52 0x41))) 0 ≡ refused 21 32)
 unfolding readingOrder lentChecks settingsChecks fileChecks ordersChecks nextChecks frameChecks liftChecks cureChecks layerChecks finishChecks thicknessAt liftsBy lowest usable mayLift allowed tmax greatestTo allowedAfter fits le16 le32 heightBits micrometres cureBits seconds round toBits
 refusals = (refl, refl, refl, refl, refl, refl)

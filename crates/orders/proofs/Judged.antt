@@ -1,6 +1,7 @@
 -- The checks of each record one after the other, as a reader goes through them: where its frame stops the record does, and behind its frame its
 -- contents decide. Assumes nothing.
 use mathlib.Core.Path.{_≡_, sym, _∙_}
+use mathlib.Core.Bool.{true}
 use mathlib.Core.List.{List, [], _∷_}
 use mathlib.Core.Option.{Option, none, some}
 use Prim.Native.Nat.{ℕ, _+_, _≤_, _<_}
@@ -11,7 +12,7 @@ use Rattle.lists.proofs.Checks.{first-passed, first-stopped}
 use Rattle.plate.specs.Refusal.{Numbered}
 use Rattle.record.specs.Bytes.{le16, le32}
 use Rattle.record.specs.Frame.{lengthAt, kindAt, bodyAt}
-use Rattle.record.specs.Faults.{tail, frameChecks, unequal}
+use Rattle.record.specs.Faults.{disagrees, unequal, tail, frameChecks}
 use Rattle.printed.specs.Possible.{cureOf}
 use Rattle.orders.specs.Layer.{cureBits}
 use Rattle.orders.specs.Kinds.{cureKind, floatLength, finishLength}
@@ -34,7 +35,7 @@ module _ (cures file : List ℕ) (layers t : ℕ) where
 
   module _ (passes : none ≡ first frame) where
     pub cure-wrong : (le32 file (bodyAt (curePlace layers)) ≡ cureBits (cureOf cures t) → ⊥)
-        → some (record { number = 16; place = curePlace layers }) ≡ first (cureChecks cures file layers t)
+        → some (disagrees true (curePlace layers) .says) ≡ first (cureChecks cures file layers t)
     unfolding cureChecks
     cure-wrong n = sym (first-passed frame contents (sym passes) ∙ simp (ne-eqb (le32 file (bodyAt (curePlace layers))) (cureBits (cureOf cures t)) n))
 
@@ -68,12 +69,12 @@ module _ (N : ℕ) (file : List ℕ) (read : Stack) where
   abbrev given : ℕ
   given = le16 file (bodyAt at)
 
-  pub finish-miscounted : (given ≡ read .layers → ⊥) → some (record { number = 16; place = at }) ≡ first (finishChecks N file read)
+  pub finish-miscounted : (given ≡ read .layers → ⊥) → some (disagrees true at .says) ≡ first (finishChecks N file read)
   unfolding finishChecks
   finish-miscounted n = simp (ne-eqb given (read .layers) n)
 
   module _ (e : given ≡ read .layers) where
-    pub finish-low : read .rise < N → some (record { number = 16; place = at }) ≡ first (finishChecks N file read)
+    pub finish-low : read .rise < N → some (disagrees true at .says) ≡ first (finishChecks N file read)
     unfolding finishChecks
     finish-low l = simp (eq-eqb given (read .layers) e, lt-leb N (read .rise) l)
 

@@ -16,6 +16,7 @@ use Rattle.paper.specs.Layer.{tmax}
 use Rattle.paper.proofs.Thicknesses.{and-true, tmax-le}
 use Rattle.record.specs.Bytes.{le32}
 use Rattle.record.specs.Frame.{bodyAt}
+use Rattle.record.specs.Faults.{disagrees}
 use Rattle.printed.specs.Possible.{usable}
 use Rattle.printed.specs.Tests.{mayLift}
 use Rattle.printed.proofs.Layers.{usable-to}
@@ -49,7 +50,7 @@ module _ (N T step : ℕ) (cures file : List ℕ) (read : Stack) where
       go true = refl
       go false = refl
 
-  pub lift-none : found ≡ tmax T → some (record { number = 16; place = liftPlace (read .layers) }) ≡ first (liftChecks N T step cures file read)
+  pub lift-none : found ≡ tmax T → some (disagrees true (liftPlace (read .layers)) .says) ≡ first (liftChecks N T step cures file read)
   unfolding liftChecks thicknessAt
   lift-none e = rw (none-follows (found + 1) (above-tmax T cures (found + 1) (omega arith))) refl
 
@@ -66,7 +67,7 @@ module _ (N T step : ℕ) (cures file : List ℕ) (read : Stack) where
     lift-first e = simp (eq-eqb (read .layers) 0 e, found-usable)
 
     module _ (some-layer : read .layers ≡ 0 → ⊥) where
-      pub lift-high : N + read .first ≤ read .rise + 1 → some (record { number = 16; place = liftPlace (read .layers) }) ≡ first (liftChecks N T step cures file read)
+      pub lift-high : N + read .first ≤ read .rise + 1 → some (disagrees true (liftPlace (read .layers)) .says) ≡ first (liftChecks N T step cures file read)
       unfolding liftChecks thicknessAt mayLift
       lift-high h = simp (ne-eqb (read .layers) 0 some-layer, found-usable, le-ltb (read .rise + 1) (N + read .first) h)
 

@@ -14,7 +14,7 @@ use lib.ListN.{length}
 use Rattle.lists.specs.Checks.{Check, first}
 use Rattle.lists.proofs.Checks.{first-passed, first-stopped}
 use Rattle.plate.specs.Refusal.{Told, Numbered, toldBy, decided}
-use Rattle.record.specs.Faults.{frameChecks}
+use Rattle.record.specs.Faults.{cut, frameChecks}
 use Rattle.printed.specs.Possible.{cureOf}
 use Rattle.printed.specs.Records.{Record, lift, cure, ordersOver, orders}
 use Rattle.orders.specs.Layer.{printedLayer}
@@ -87,14 +87,14 @@ module _ (N T step : ℕ) (cures file : List ℕ) (number : ℕ) where
 
   -- nothing is left
   pub over : (read : Stack) (known : Order) → Walked read known → length file ≤ liftPlace (read .layers)
-      → some (record { number = 16; place = liftPlace (read .layers) }) ≡ first all
+      → some (cut file (liftPlace (read .layers)) .says) ≡ first all
   unfolding ordersChecks nextChecks frameChecks
   over read known w l = go (w .left) (w .checks)
     where
       cut-off : ltb (length file - liftPlace (read .layers)) 4 ≡ true
       cut-off = lt-ltb (length file - liftPlace (read .layers)) 4 (omega arith)
 
-      go : (n : ℕ) → first all ≡ first (ordersChecks N T step cures file n read) → some (record { number = 16; place = liftPlace (read .layers) }) ≡ first all
+      go : (n : ℕ) → first all ≡ first (ordersChecks N T step cures file n read) → some (cut file (liftPlace (read .layers)) .says) ≡ first all
       go zero e = sym (e ∙ simp cut-off)
       go (suc n) e = sym (e ∙ simp cut-off)
 

@@ -25,9 +25,12 @@ reasons =
     ∷ reason.NotAdmissible
     ∷ reason.Step
     ∷ reason.MotorBoundary
-    ∷ reason.Malformed
+    ∷ reason.RanOut
     ∷ reason.TooLarge
     ∷ reason.NoCure
+    ∷ reason.WrongKind
+    ∷ reason.WrongLength
+    ∷ reason.Disagrees
     ∷ []
 
 -- what stands there at a number, counted from 1
@@ -50,9 +53,12 @@ reason-back reason.Unreadable = refl
 reason-back reason.NotAdmissible = refl
 reason-back reason.Step = refl
 reason-back reason.MotorBoundary = refl
-reason-back reason.Malformed = refl
+reason-back reason.RanOut = refl
 reason-back reason.TooLarge = refl
 reason-back reason.NoCure = refl
+reason-back reason.WrongKind = refl
+reason-back reason.WrongLength = refl
+reason-back reason.Disagrees = refl
 
 pub number-only : (a b : Reason) → numberOf a ≡ numberOf b → a ≡ b
 number-only a b e = sym (reason-back a) ∙ ap reasonOf e ∙ reason-back b

@@ -26,9 +26,12 @@ numberOf reason.Unreadable = 12
 numberOf reason.NotAdmissible = 13
 numberOf reason.Step = 14
 numberOf reason.MotorBoundary = 15
-numberOf reason.Malformed = 16
+numberOf reason.RanOut = 16
 numberOf reason.TooLarge = 17
 numberOf reason.NoCure = 18
+numberOf reason.WrongKind = 19
+numberOf reason.WrongLength = 20
+numberOf reason.Disagrees = 21
 
 -- what a call tells: a value, or a refusal's number and place
 pub data Told (X : Type 0) : Type 0 where

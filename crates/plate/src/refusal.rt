@@ -18,9 +18,12 @@ pub enum Reason {
     NotAdmissible,
     Step,
     MotorBoundary,
-    Malformed,
+    RanOut,
     TooLarge,
     NoCure,
+    WrongKind,
+    WrongLength,
+    Disagrees,
 }
 
 impl Reason {
@@ -44,9 +47,12 @@ impl Reason {
             Reason::NotAdmissible => 13,
             Reason::Step => 14,
             Reason::MotorBoundary => 15,
-            Reason::Malformed => 16,
+            Reason::RanOut => 16,
             Reason::TooLarge => 17,
             Reason::NoCure => 18,
+            Reason::WrongKind => 19,
+            Reason::WrongLength => 20,
+            Reason::Disagrees => 21,
         }
     }
 }

@@ -45,7 +45,7 @@ use Rattle.orders.specs.File.{noLayers, grown, thicknessAt, nextChecks, finishe
 use Rattle.orders.specs.Writing.{fileWanted, filing, writingOrders}
 use Rattle.orders.specs.Reading.{readingOrder}
 use Rattle.orders.specs.declared.Stack.{Stack}
-use Rattle.promises.specs.Orders.{numbers, isOneOf, ByLine, CallByLine, bodyLine, recordLine, fileLine, openingLine, behindLine, rowsLine, tableLine, afterFrame, orderLine, Orders}
+use Rattle.promises.specs.Orders.{numbers, isOneOf, ByLine, CallByLine, bodyLine, frameLine, recordLine, fileLine, openingLine, behindLine, rowsLine, tableLine, afterFrame, orderLine, Orders}
 use Rattle.promises.proofs.Refusals.{record-told}
 
 -- what the first check that holds says has one of the numbers
@@ -91,7 +91,7 @@ record-numbers s st at = go (st .ended)
   where
     go : (b : Bool) → numbers (cond b (tail s at ∷ []) (kindChecks s st at (recordKind s at))) ≡ recordLine b (recordKind s at)
     go true = refl
-    go false = ap (λ (l : List ℕ). 16 ∷ 16 ∷ 16 ∷ 16 ∷ l) (body-numbers s st at (recordKind s at))
+    go false = ap (λ (l : List ℕ). frameLine ++ l) (body-numbers s st at (recordKind s at))
 
 file-numbers : (lent : List ℕ) (file : Told Job) → numbers (loading lent file .checks) ≡ fileLine file
 unfolding loading short
@@ -140,7 +140,7 @@ order-numbers : (N T step : ℕ) (cures file : List ℕ) (left : ℕ) (read : St
 unfolding ordersChecks nextChecks frameChecks order.layerChecks liftChecks cureChecks finishChecks
 order-numbers N T step cures file zero read = refl
 order-numbers N T step cures file (suc left) read =
-    ap (λ (l : List ℕ). 16 ∷ 16 ∷ 16 ∷ 16 ∷ l) (go (finishes file (read .layers)) (order-numbers N T step cures file left next))
+    ap (λ (l : List ℕ). frameLine ++ l) (go (finishes file (read .layers)) (order-numbers N T step cures file left next))
   where
     next : Stack
     next = grown read (thicknessAt T step cures file read)
@@ -149,7 +149,7 @@ order-numbers N T step cures file (suc left) read =
         → numbers (cond last (finishChecks N file read) (order.layerChecks N T step cures file read ++ ordersChecks N T step cures file left next))
         ≡ afterFrame last (orderLine file left (read .layers + 1))
     go true e = refl
-    go false e = ap (λ (l : List ℕ). 16 ∷ 16 ∷ 16 ∷ 16 ∷ 16 ∷ 16 ∷ l) e
+    go false e = ap (λ (l : List ℕ). 21 ∷ (frameLine ++ (21 ∷ l))) e
 
 read-numbers : (N T step : ℕ) (cures file : List ℕ) (number : ℕ) → numbers (readingOrder N T step cures file number .checks) ≡ 1 ∷ 2 ∷ 14 ∷ 3 ∷ orderLine file (length file) 0
 unfolding readingOrder lentChecks settingsChecks order.fileChecks

@@ -22,7 +22,9 @@ use Rattle.plate.specs.Refusal.{Numbered}
 use Rattle.record.specs.Bytes.{Bytes, le16, le32}
 use Rattle.record.specs.Frame.{lengthAt, kindAt, bodyAt, left}
 use Rattle.record.specs.Faults.{cut, disagrees, unequal, tail, frameChecks, Framed}
-use Rattle.record.proofs.Frames.{frame-passes, frame-passed}
+use Rattle.record.specs.Places.{At}
+use Rattle.record.proofs.Frames.{frame-passes, frame-passed, frame-at}
+use Rattle.record.proofs.Places.{both-at, at-place}
 use Rattle.printed.specs.Possible.{cureOf, usable}
 use Rattle.printed.specs.Tests.{mayFinish}
 use Rattle.printed.specs.Records as reader
@@ -44,30 +46,14 @@ use Rattle.promises.proofs.PrintedFloats.{heights-same}
 use Rattle.promises.proofs.PrintedRecords.{distinct, lift-long, cure-long, finish-long, Head, There, there, lift-there, cure-there, finish-there}
 use Rattle.promises.proofs.PrintedStates.{stateOf, liftedBy, Flat, grown-flat, not-whole, may-usable, lift-next, cure-next, finish-next, Due, due, few-layers, may-low}
 
--- ---- checks that all say the same
+-- ---- checks that all have one place
 
-abbrev pub malformed : ℕ → Numbered
-malformed place = record { number = 16; place = place }
-
-abbrev Say : Numbered → List (Check Numbered) → Type 0
-Say r [] = Unit {0}
-Say r (c ∷ cs) = (c .says ≡ r) × Say r cs
-
-say-append : (r : Numbered) (cs ds : List (Check Numbered)) → Say r cs → Say r ds → Say r (cs ++ ds)
-say-append r [] ds p q = q
-say-append r (c ∷ cs) ds p q = (p .0, say-append r cs ds (p .1) q)
-
-passed-or : (r : Numbered) (cs : List (Check Numbered)) → Say r cs → (first cs ≡ none) ⊎ (first cs ≡ some r)
-passed-or r [] p = inl refl
-passed-or r (c ∷ cs) p = go (c .holds) (passed-or r cs (p .1))
+passed-or : (cs : List (Check Numbered)) → (first cs ≡ none) ⊎ ((q : Numbered) × (first cs ≡ some q))
+passed-or cs = go (first cs) refl
   where
-    go : (b : Bool) → (first cs ≡ none) ⊎ (first cs ≡ some r) → (cond b (some (c .says)) (first cs) ≡ none) ⊎ (cond b (some (c .says)) (first cs) ≡ some r)
-    go true o = inr (ap some (p .0))
-    go false o = o
-
-frame-say : (s : List ℕ) (at : ℕ) (allowed right : Bool) → Say (malformed at) (frameChecks s at allowed right)
-unfolding frameChecks
-frame-say s at allowed right = (refl, (refl, (refl, (refl, tt))))
+    go : (o : Option Numbered) → first cs ≡ o → (first cs ≡ none) ⊎ ((q : Numbered) × (first cs ≡ some q))
+    go none e = inl e
+    go (some q) e = inr (q, e)
 
 -- ---- bytes
 
@@ -114,18 +100,18 @@ module _ {N T step : ℕ} {cures : List ℕ} (l : Lent N T step cures) (file : L
       → FaultAt N T cures code file at
   fault {rs} {s} {at} c stuck n = refused N T cures code (distinct l) some-height file at (here c) stuck n
 
-  -- ---- what comes of it: 16 at the fault, or these records
+  -- ---- what comes of it: a refusal at the fault, or these records
 
   abbrev pub Outcome : Option Numbered → List Record → Type 0
-  Outcome o rs = ((p : ℕ) × (o ≡ some (malformed p)) × FaultAt N T cures code file p) ⊎ ((o ≡ none) × Printed N T cures rs × (bytesOf code rs ≡ file))
+  Outcome o rs = ((q : Numbered) × (o ≡ some q) × FaultAt N T cures code file (q .place)) ⊎ ((o ≡ none) × Printed N T cures rs × (bytesOf code rs ≡ file))
 
-  stage : (p : ℕ) (cs ds : List (Check Numbered)) (rs : List Record) → Say (malformed p) cs → (first cs ≡ some (malformed p) → FaultAt N T cures code file p)
+  stage : (p : ℕ) (cs ds : List (Check Numbered)) (rs : List Record) → At p cs → ((q : Numbered) → first cs ≡ some q → FaultAt N T cures code file p)
       → (first cs ≡ none → Outcome (first ds) rs) → Outcome (first (cs ++ ds)) rs
-  stage p cs ds rs say stop pass = go (passed-or (malformed p) cs say)
+  stage p cs ds rs here stop pass = go (passed-or cs)
     where
-      go : (first cs ≡ none) ⊎ (first cs ≡ some (malformed p)) → Outcome (first (cs ++ ds)) rs
+      go : (first cs ≡ none) ⊎ ((q : Numbered) × (first cs ≡ some q)) → Outcome (first (cs ++ ds)) rs
       go (inl e) = subst (λ (o : Option Numbered). Outcome o rs) (sym (first-passed cs ds e)) (pass e)
-      go (inr e) = inl (p, first-stopped cs ds (malformed p) e, stop e)
+      go (inr e) = inl (e .0, first-stopped cs ds (e .0) (e .1), subst (FaultAt N T cures code file) (sym (at-place p cs (e .0) here (e .1))) (stop (e .0) (e .1)))
 
   -- a record that comes next would have passed
   stuck-by : (s : State) (at : ℕ) {o : Option Numbered} {q : Numbered} → o ≡ some q
@@ -136,13 +122,13 @@ module _ {N T step : ℕ} {cures : List ℕ} (l : Lent N T step cures) (file : L
   ended : {rs : List Record} {past : ℕ} → Come rs whole past → Outcome (first (tail file past ∷ [])) rs
   unfolding reader.step
   ended {rs} {past} c =
-      stage past (tail file past ∷ []) [] rs (refl, tt) (λ e. fault c (λ r o q x z. none-some q) (λ z x. more e x))
+      stage past (tail file past ∷ []) [] rs (refl, tt) (λ q e. fault c (λ r o d x z. none-some d) (λ z x. more e x))
       (λ e. inr (refl, written-printed N T cures rs (goes-written N T cures some-height rs (read-goes N T cures fresh rs (c .reads))), all e))
     where
       none-behind : length file - past ≡ 0 → first (tail file past ∷ []) ≡ none
       none-behind n = simp (le-ltb past (length file) (omega arith))
 
-      more : first (tail file past ∷ []) ≡ some (malformed past) → drop past file ≡ [] → ⊥
+      more : {q : Numbered} → first (tail file past ∷ []) ≡ some q → drop past file ≡ [] → ⊥
       more e x = let n = sym (length-drop past file) ∙ ap length x in none-some (sym (none-behind n) ∙ e)
 
       all : first (tail file past ∷ []) ≡ none → bytesOf code rs ≡ file
@@ -188,9 +174,9 @@ module _ {N T step : ℕ} {cures : List ℕ} (l : Lent N T step cures) (file : L
     unfolding nextChecks
     next-framed e = frame-passed file at (allowedAfter (read .layers) (kindAt file at)) (fits (kindAt file at) (lengthAt file at)) e
 
-    next-say : Say (malformed at) next
+    next-at : At at next
     unfolding nextChecks
-    next-say = frame-say file at (allowedAfter (read .layers) (kindAt file at)) (fits (kindAt file at) (lengthAt file at))
+    next-at = frame-at file at (allowedAfter (read .layers) (kindAt file at)) (fits (kindAt file at) (lengthAt file at))
 
     -- ---- the finish
 
@@ -271,9 +257,9 @@ module _ {N T step : ℕ} {cures : List ℕ} (l : Lent N T step cures) (file : L
     lift-passes h (cure c) d t = absurd d
     lift-passes h (finish n) d t = absurd (omega (arith, h .kind-is, t .0 .kind-is))
 
-    lift-say : Say (malformed at) (liftChecks N T step cures file read)
+    lift-at : At at (liftChecks N T step cures file read)
     unfolding liftChecks
-    lift-say = (refl, tt)
+    lift-at = (refl, tt)
 
     lift-passed : first (liftChecks N T step cures file read) ≡ none → mayFollow N T cures read found ≡ true
     unfolding liftChecks
@@ -320,12 +306,12 @@ module _ {N T step : ℕ} {cures : List ℕ} (l : Lent N T step cures) (file : L
           eqb-true (le32 file (bodyAt cureAt)) (cureBits (cureOf cures found)) (not-false _ q),
         )
 
-    cure-say : Say (malformed cureAt) curing
+    cure-at : At cureAt curing
     unfolding cureChecks
-    cure-say =
-        say-append (malformed cureAt) (frameChecks file cureAt (eqb (kindAt file cureAt) cureKind) (eqb (lengthAt file cureAt) floatLength))
+    cure-at =
+        both-at cureAt (frameChecks file cureAt (eqb (kindAt file cureAt) cureKind) (eqb (lengthAt file cureAt) floatLength))
         (unequal (le32 file (bodyAt cureAt)) (cureBits (cureOf cures found)) cureAt ∷ [])
-        (frame-say file cureAt (eqb (kindAt file cureAt) cureKind) (eqb (lengthAt file cureAt) floatLength)) (refl, tt)
+        (frame-at file cureAt (eqb (kindAt file cureAt) cureKind) (eqb (lengthAt file cureAt) floatLength)) (refl, tt)
 
     abbrev layer : List Record
     layer = (rs ++ (upTo ∷ [])) ++ (cure (cureOf cures found) ∷ [])
@@ -365,7 +351,7 @@ module _ {N T step : ℕ} {cures : List ℕ} (l : Lent N T step cures) (file : L
     finish-outcome : 0 < read .layers → Head file at finishKind finishLength → Outcome (first (finishChecks N file read)) (rs ++ (finish (read .layers) ∷ []))
     unfolding finishChecks
     finish-outcome some-layer h =
-        stage at (disagrees (not counts) at ∷ []) (tail file past ∷ []) (rs ++ (finish (read .layers) ∷ [])) (refl, tt) (λ e. fault-here e (finish-passes h))
+        stage at (disagrees (not counts) at ∷ []) (tail file past ∷ []) (rs ++ (finish (read .layers) ∷ [])) (refl, tt) (λ q e. fault-here e (finish-passes h))
         (λ e. ended (finish-come some-layer h (not-false counts (first-none (disagrees (not counts) at ∷ []) .0 e .0))))
 
     -- ---- all of it
@@ -395,10 +381,10 @@ module _ {N T step : ℕ} {cures : List ℕ} (l : Lent N T step cures) (file : L
             let lifting = liftChecks N T step cures file read in
             let all = rs ++ ordersOver cures (read .layers) (read .rise) (found ∷ more) in
             subst (λ (cs : List (Check Numbered)). Outcome (first cs) all) (sym (append-assoc lifting curing later))
-            (stage at lifting (curing ++ later) all lift-say (λ e. fault-here e (lift-passes h))
+            (stage at lifting (curing ++ later) all lift-at (λ q e. fault-here e (lift-passes h))
             (λ e.
             let d = lift-come h (lift-passed e) in
-            stage cureAt curing later all cure-say (λ e. fault d (stuck-by (liftedBy read found) cureAt e cure-passes) (λ z x. not-lifted z))
+            stage cureAt curing later all cure-at (λ q e. fault d (stuck-by (liftedBy read found) cureAt e cure-passes) (λ z x. not-lifted z))
             (λ e. subst (λ (us : List Record). Outcome (first later) us) layer-records (on (cure-come d e)))))
           where
             not-lifted : liftedBy read found ≡ whole → ⊥
@@ -407,7 +393,7 @@ module _ {N T step : ℕ} {cures : List ℕ} (l : Lent N T step cures) (file : L
         next-outcome : Outcome (first (ordersChecks N T step cures file (suc n) read)) (rs ++ ordersOver cures (read .layers) (read .rise) (layersFrom T step cures file (suc n) read))
         unfolding ordersChecks layersFrom ordersOver
         next-outcome =
-            stage at next (checks (finishes file (read .layers))) (records (finishes file (read .layers))) next-say (λ e. fault-here e next-passes)
+            stage at next (checks (finishes file (read .layers))) (records (finishes file (read .layers))) next-at (λ q e. fault-here e next-passes)
             (λ e. go (finishes file (read .layers)) refl e)
           where
             checks : Bool → List (Check Numbered)
@@ -424,8 +410,8 @@ module _ {N T step : ℕ} {cures : List ℕ} (l : Lent N T step cures) (file : L
     none-left : length file ≤ read .layers → Outcome (first (ordersChecks N T step cures file 0 read)) (rs ++ ordersOver cures (read .layers) (read .rise) [])
     unfolding ordersChecks
     none-left n =
-        let e : first (cut file at ∷ []) ≡ some (malformed at) = simp (lt-ltb (left file at) 4 (omega arith)) in
-        inl (at, e, fault-here e over)
+        let e : first (cut file at ∷ []) ≡ some (cut file at .says) = simp (lt-ltb (left file at) 4 (omega arith)) in
+        inl (cut file at .says, e, fault-here e over)
       where
         over : (r : Record) → Due N T cures read flat r → There step file at r → first (cut file at ∷ []) ≡ none
         over (lift x) d t = absurd (omega (arith, t .0 .within))
@@ -445,7 +431,7 @@ module _ {N T step : ℕ} {cures : List ℕ} (l : Lent N T step cures) (file : L
   begin : Come [] fresh 0
   begin = record { reads = read-nil N T cures fresh; same = refl; place = refl }
 
-  -- THE FILE: 16 at its fault, or the orders of the layers that are read
+  -- THE FILE: a refusal at its fault, or the orders of the layers that are read
   pub file-judged : Outcome (first (fileChecks N T step cures file)) (orders cures (layersIn T step cures file))
   unfolding fileChecks layersIn orders
   file-judged = judged (length file) noLayers (λ e. refl) begin (omega arith)

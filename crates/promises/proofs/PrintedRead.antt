@@ -86,20 +86,20 @@ module _ {N T step : ℕ} {cures : List ℕ} (l : Lent N T step cures) (file : L
     where
       go : Outcome l file byte (first (fileChecks N T step cures file)) read → ReadsExactly N T step cures file number
       go (inl v) =
-          let r : answer ≡ refused 16 (v .0) = answered _ (v .1) in record {
+          let r : answer ≡ refused (v .0 .number) (v .0 .place) = answered _ (v .1) in record {
             accepts = λ o. (λ q. absurd (done-refused q r), λ a. absurd (v .2 .none (accepted o a)));
-            refuses = λ n place. (
+            refuses = λ place. (
               λ q.
-                  let s : refused 16 (v .0) ≡ refused n place = sym r ∙ q in
-                  (let i : n ≡ 16 = cc in i, subst (FaultAt N T cures (recordBytes step) file) (let i : v .0 ≡ place = cc in i) (v .2)),
-              λ a. r ∙ ap₂ refused (sym (a .0)) (fault-unique N T cures (recordBytes step) file (v .0) place (v .2) (a .1)),
+                  let s : refused (v .0 .number) (v .0 .place) ≡ refused (q .0) place = sym r ∙ q .1 in
+                  subst (FaultAt N T cures (recordBytes step) file) (let i : v .0 .place ≡ place = cc in i) (v .2),
+              λ a. (v .0 .number, r ∙ ap (refused (v .0 .number)) (fault-unique N T cures (recordBytes step) file (v .0 .place) place (v .2) a)),
             );
           }
       go (inr v) =
           let r = answered none (v .0) in record {
             accepts = λ o. (done-sequence (v .1) (v .2) r o, sequence-done (v .1) (v .2) r o);
-            refuses = λ n place. (
-              λ q. absurd (done-refused r q),
-              λ a. absurd (a .1 .none (record { records = read; printed = v .1; same = v .2 })),
+            refuses = λ place. (
+              λ q. absurd (done-refused r (q .1)),
+              λ a. absurd (a .none (record { records = read; printed = v .1; same = v .2 })),
             );
           }

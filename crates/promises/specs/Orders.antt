@@ -59,33 +59,38 @@ pub record ByLine {X : Type 0} (answer : Told X) (checks : List (Check Numbered)
 abbrev pub CallByLine : {X B : Type 0} → Call X B → List ℕ → Type 0
 CallByLine call line = ByLine (answerOf call) (call .checks) (call .value) line
 
--- 'then 1, 2 at settings only; 7, 4, 5 at a column only, ..; end count unequal (16)'
+-- 'then 1, 2 at settings only; 7, 4, 5 at a column only, ..; end count unequal', which document 02 f) numbers 21
 abbrev pub bodyLine : Kind → List ℕ
 bodyLine kind.Settings = 1 ∷ 2 ∷ []
 bodyLine kind.Column = 7 ∷ 4 ∷ 5 ∷ []
-bodyLine kind.End = 16 ∷ []
+bodyLine kind.End = 21 ∷ []
 bodyLine kind.Remark = []
 bodyLine kind.Refused = []
 
--- 'In a record: fewer than 4 bytes left; kind not allowed here; wrong length for the kind; body past the input (all 16)'; after the end record,
--- bytes that are left
+-- 'In a record: fewer than 4 bytes left; kind not allowed here; wrong length for the kind; body past the input', which document 02 f) numbers 16,
+-- 19, 20 and 16
+abbrev pub frameLine : List ℕ
+frameLine = 16 ∷ 19 ∷ 20 ∷ 16 ∷ []
+
+-- of a record, its frame and its body; after the end record, bytes that are left
 abbrev pub recordLine : Bool → Kind → List ℕ
-recordLine true k = 16 ∷ []
-recordLine false k = 16 ∷ 16 ∷ 16 ∷ 16 ∷ bodyLine k
+recordLine true k = 21 ∷ []
+recordLine false k = frameLine ++ bodyLine k
 
 -- a file that is a job: the table that it is read into; any other has its own refusal
 abbrev pub fileLine : Told Job → List ℕ
 fileLine (done job) = 3 ∷ []
 fileLine (refused number place) = number ∷ []
 
--- document 02 c), 'Refusals of the reader: 16 by record as in the job file, then 1, 2, 7 and 6 as they apply': the record that opens a table file
+-- document 02 c), 'Refusals of the reader: 16 by record as in the job file, then 1, 2, 7 and 6 as they apply', with f)'s numbers: the record that opens a
+-- table file
 abbrev pub openingLine : List ℕ
-openingLine = 16 ∷ 16 ∷ 16 ∷ 16 ∷ 1 ∷ 2 ∷ 7 ∷ []
+openingLine = frameLine ++ (1 ∷ 2 ∷ 7 ∷ [])
 
 -- a record behind it, by whether it is the end: its number of rows and then bytes after it; of a row its start and then its cells
 abbrev pub behindLine : Bool → List ℕ
-behindLine true = 16 ∷ 16 ∷ 16 ∷ 16 ∷ 16 ∷ 16 ∷ []
-behindLine false = 16 ∷ 16 ∷ 16 ∷ 16 ∷ 16 ∷ 6 ∷ []
+behindLine true = frameLine ++ (21 ∷ 21 ∷ [])
+behindLine false = frameLine ++ (21 ∷ 6 ∷ [])
 
 -- the records from row r on, so many rows being left, and the one behind the last row
 abbrev pub rowsLine : List ℕ → ℕ → ℕ → ℕ → List ℕ
@@ -96,16 +101,16 @@ rowsLine file T (suc left) r = behindLine (eqb (kindAt file (rowPlace T r)) endK
 abbrev pub tableLine : List ℕ → List ℕ
 tableLine file = (openingLine ++ rowsLine file (headIn file .members) (rowsOf (headIn file)) 0) ++ (3 ∷ [])
 
--- document 02 e), 'the reader, after the list, gives 16 at the first record after which no such file is possible': behind the frame of a record, by
--- whether it is the finish, which has its number and then bytes after it; a layer has its height, and its cure time's frame and bytes
+-- document 02 e), 'the reader, after the list, gives 16 at the first record after which no such file is possible', with f)'s numbers: behind the frame of
+-- a record, by whether it is the finish, which has its number and then bytes after it; a layer has its height, and its cure time's frame and bytes
 abbrev pub afterFrame : Bool → List ℕ → List ℕ
-afterFrame true rest = 16 ∷ 16 ∷ []
-afterFrame false rest = 16 ∷ 16 ∷ 16 ∷ 16 ∷ 16 ∷ 16 ∷ rest
+afterFrame true rest = 21 ∷ 21 ∷ []
+afterFrame false rest = 21 ∷ (frameLine ++ (21 ∷ rest))
 
 -- the records behind so many layers, of at most so many more; and then the end of the file
 abbrev pub orderLine : List ℕ → ℕ → ℕ → List ℕ
 orderLine file zero layers = 16 ∷ []
-orderLine file (suc left) layers = 16 ∷ 16 ∷ 16 ∷ 16 ∷ afterFrame (finishes file layers) (orderLine file left (layers + 1))
+orderLine file (suc left) layers = frameLine ++ afterFrame (finishes file layers) (orderLine file left (layers + 1))
 
 pub record Orders : Type 0 where
   pub clear : (N T : ℕ) (table : List ℕ) → CallByLine (clearing N T table) (1 ∷ 2 ∷ 3 ∷ [])

@@ -50,12 +50,13 @@ PrintsExactly N T step cures zs =
     → Exactly (printedLayer (natAbs (zs ! suc k -ℤ zs ! 0)) (thickness zs k) step (cureOf cures (thickness zs k))) (natAbs (zs ! suc k -ℤ zs ! 0)) (thickness zs k) step
     (cureOf cures (thickness zs k))
 
--- 'reading accepts exactly the files that the writer gives for some admissible sequence under these', whichever of them is taken, and gives 16 'at the
--- first record after which no such file is possible': at the furthest end of a record up to which such a file agrees with the input, or at 0
+-- 'reading accepts exactly the files that the writer gives for some admissible sequence under these', whichever of them is taken, and refuses any other
+-- 'at the first record after which no such file is possible': at the furthest end of a record up to which such a file agrees with the input, or at 0.
+-- By which of document 02 f)'s numbers, `Faults` says
 pub record ReadsExactly (N T step : ℕ) (cures file : List ℕ) (number : ℕ) : Type 0 where
   pub accepts : (o : Order) → (answerOf (readingOrder N T step cures file number) ≡ done o)
       ↔ ((zs : List ℤ) × Orderable N T cures zs × (orderBytes step cures zs ≡ file) × (o ≡ orderOf step (recordAt (fileOf cures zs) number)))
-  pub refuses : (n place : ℕ) → (answerOf (readingOrder N T step cures file number) ≡ refused n place) ↔ ((n ≡ 16) × FaultAt N T cures (recordBytes step) file place)
+  pub refuses : (place : ℕ) → ((n : ℕ) × (answerOf (readingOrder N T step cures file number) ≡ refused n place)) ↔ FaultAt N T cures (recordBytes step) file place
 
 -- the first layer, from 1, whose cure time is 0
 pub record FirstUncured (cures : List ℕ) (zs : List ℤ) (place : ℕ) : Type 0 where

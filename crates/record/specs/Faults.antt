@@ -16,11 +16,11 @@ cut s at = check 16 (ltb (left s at) 4) at
 
 -- kind not allowed here
 abbrev pub kindHere : Bool → ℕ → Check Numbered
-kindHere allowed at = check 16 (not allowed) at
+kindHere allowed at = check 19 (not allowed) at
 
 -- wrong length for the kind
 abbrev pub wrongLength : Bool → ℕ → Check Numbered
-wrongLength right at = check 16 (not right) at
+wrongLength right at = check 20 (not right) at
 
 -- body past the input
 abbrev pub bodyCut : List ℕ → ℕ → Check Numbered
@@ -28,14 +28,14 @@ bodyCut s at = check 16 (ltb (left s (bodyAt at)) (lengthAt s at)) at
 
 -- contents that disagree with the file: by some test, or a number that the record gives and what the file has
 abbrev pub disagrees : Bool → ℕ → Check Numbered
-disagrees when at = check 16 when at
+disagrees when at = check 21 when at
 
 abbrev pub unequal : ℕ → ℕ → ℕ → Check Numbered
 unequal given counted at = disagrees (not (eqb given counted)) at
 
 -- bytes after the end, at the first of them
 abbrev pub tail : List ℕ → ℕ → Check Numbered
-tail s end = check 16 (ltb end (length s)) end
+tail s end = disagrees (ltb end (length s)) end
 
 -- what is asked of the record at a place before its body is looked at
 unfoldable pub frameChecks : List ℕ → ℕ → Bool → Bool → List (Check Numbered)

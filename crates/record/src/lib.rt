@@ -20,17 +20,17 @@ use plate::refusal::refusal_at;
 pub struct Fault;
 
 impl Fault {
-    pub const CUT: Reason = Reason::Malformed;
+    pub const CUT: Reason = Reason::RanOut;
 
-    pub const KIND_HERE: Reason = Reason::Malformed;
+    pub const KIND_HERE: Reason = Reason::WrongKind;
 
-    pub const WRONG_LENGTH: Reason = Reason::Malformed;
+    pub const WRONG_LENGTH: Reason = Reason::WrongLength;
 
-    pub const BODY_CUT: Reason = Reason::Malformed;
+    pub const BODY_CUT: Reason = Reason::RanOut;
 
-    pub const UNEQUAL: Reason = Reason::Malformed;
+    pub const UNEQUAL: Reason = Reason::Disagrees;
 
-    pub const TAIL: Reason = Reason::Malformed;
+    pub const TAIL: Reason = Reason::Disagrees;
 }
 
 // The bytes from a place on; a place past the input counts as nothing left.

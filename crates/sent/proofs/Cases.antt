@@ -64,9 +64,9 @@ unfolding tableFile fileChecks openingChecks headIn rowsChecks recordChecks rowC
 cells-over = (refl, refl)
 
 -- the first start one lower; kind 18, and a remark, straight after kind 16
-pub first-row : (tableFile (opening ++ (row 253 255 0 0 1 ++ (laterRows ++ closing))) ≡ refused 16 14)
-    × (tableFile (opening ++ closing) ≡ refused 16 14)
-    × (tableFile (opening ++ (0 ∷ 0 ∷ 0 ∷ 128 ∷ (row 254 255 0 0 1 ++ (laterRows ++ closing)))) ≡ refused 16 14)
+pub first-row : (tableFile (opening ++ (row 253 255 0 0 1 ++ (laterRows ++ closing))) ≡ refused 21 14)
+    × (tableFile (opening ++ closing) ≡ refused 19 14)
+    × (tableFile (opening ++ (0 ∷ 0 ∷ 0 ∷ 128 ∷ (row 254 255 0 0 1 ++ (laterRows ++ closing)))) ≡ refused 19 14)
 unfolding tableFile fileChecks openingChecks headIn rowsChecks recordChecks rowChecks endChecks frameChecks rowPlace rowLength allowedAfter fits over someBelow cellsIn cellsFrom settingsChecks isOver limitOf limit twos16 rowStart rows tmax greatestTo allowed quads le32 le16
 first-row = (refl, refl, refl)
 
@@ -74,10 +74,10 @@ first-row = (refl, refl, refl)
 pub at-the-end : (tableFile (take 163 plateFile) ≡ refused 16 158)
     × (tableFile (take 160 plateFile) ≡ refused 16 158)
     × (tableFile (take 158 plateFile) ≡ refused 16 158)
-    × (tableFile (opening ++ (row 254 255 0 0 1 ++ (laterRows ++ (2 ∷ 0 ∷ 18 ∷ 0 ∷ 7 ∷ 0 ∷ [])))) ≡ refused 16 158)
-    × (tableFile (opening ++ (row 254 255 0 0 1 ++ (laterRows ++ (row 6 0 0 0 0 ++ closing)))) ≡ refused 16 158)
-    × (tableFile (opening ++ (row 254 255 0 0 1 ++ closing)) ≡ refused 16 32)
-    × (tableFile (plateFile ++ (0 ∷ [])) ≡ refused 16 164)
+    × (tableFile (opening ++ (row 254 255 0 0 1 ++ (laterRows ++ (2 ∷ 0 ∷ 18 ∷ 0 ∷ 7 ∷ 0 ∷ [])))) ≡ refused 21 158)
+    × (tableFile (opening ++ (row 254 255 0 0 1 ++ (laterRows ++ (row 6 0 0 0 0 ++ closing)))) ≡ refused 21 158)
+    × (tableFile (opening ++ (row 254 255 0 0 1 ++ closing)) ≡ refused 21 32)
+    × (tableFile (plateFile ++ (0 ∷ [])) ≡ refused 21 164)
 unfolding tableFile fileChecks openingChecks headIn rowsChecks recordChecks rowChecks endChecks frameChecks rowPlace rowLength allowedAfter fits over someBelow cellsIn cellsFrom settingsChecks isOver limitOf limit twos16 rowStart rows tmax greatestTo allowed quads le32 le16
 at-the-end = (refl, refl, refl, refl, refl, refl, refl)
 
