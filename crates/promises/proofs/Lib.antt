@@ -32,3 +32,5 @@ pub mod PrintedWritten
 pub mod PrintedTrip
 pub mod PrintedLayers
 pub mod Printing
+pub mod Longer
+pub mod Lawful

@@ -16,3 +16,8 @@ pub mod Ways
 pub mod Trips
 pub mod Mission
 pub mod Printing
+pub mod Reader
+pub mod Kinds
+pub mod Readers
+pub mod Faults
+pub mod Before

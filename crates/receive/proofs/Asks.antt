@@ -17,7 +17,7 @@ use Rattle.plate.specs.Head.{isOver, headChecks, overCheck}
 use Rattle.plate.specs.declared.head.Head.{Head}
 use Rattle.record.specs.Bytes.{le16}
 use Rattle.record.specs.Frame.{lengthAt, kindAt, bodyAt}
-use Rattle.record.specs.Faults.{tail, frameChecks}
+use Rattle.record.specs.Faults.{disagrees, tail, frameChecks}
 use Rattle.record.proofs.Frames.{frame-passed, frame-passes}
 use Rattle.sent.specs.Kinds.{headKind, rowKind, endKind, headLength, rowLength, endLength, allowedAfter, fits}
 use Rattle.sent.specs.Start.{rowStart, twos16}
@@ -74,12 +74,12 @@ module _ (s : List ℕ) (head : Head) (left r : ℕ) where
 
   -- the end
 
-  pub end-missing : 0 < left → some (at 16 place) ≡ first (endChecks s head left r)
+  pub end-missing : 0 < left → some (disagrees true place .says) ≡ first (endChecks s head left r)
   unfolding endChecks
   end-missing l = simp (ne-eqb left 0 (λ e. omega arith))
 
   module _ (none-left : left ≡ 0) where
-    pub end-unequal : (given ≡ rowsOf head → ⊥) → some (at 16 place) ≡ first (endChecks s head left r)
+    pub end-unequal : (given ≡ rowsOf head → ⊥) → some (disagrees true place .says) ≡ first (endChecks s head left r)
     unfolding endChecks
     end-unequal e = simp (eq-eqb left 0 none-left, ne-eqb given (rowsOf head) e)
 
@@ -89,12 +89,12 @@ module _ (s : List ℕ) (head : Head) (left r : ℕ) where
 
     -- a row
 
-    pub row-past : some (at 16 place) ≡ first (rowChecks s head left r)
+    pub row-past : some (disagrees true place .says) ≡ first (rowChecks s head left r)
     unfolding rowChecks
     row-past = simp (eq-eqb left 0 none-left)
 
   module _ (some-left : 0 < left) where
-    pub row-elsewhere : (given ≡ twos16 (rowStart (head .members) r) → ⊥) → some (at 16 place) ≡ first (rowChecks s head left r)
+    pub row-elsewhere : (given ≡ twos16 (rowStart (head .members) r) → ⊥) → some (disagrees true place .says) ≡ first (rowChecks s head left r)
     unfolding rowChecks
     row-elsewhere e = simp (ne-eqb left 0 (λ z. omega arith), ne-eqb given (twos16 (rowStart (head .members) r)) e)
 

@@ -37,13 +37,13 @@ module _ (a : tie.Start) where
 returns : tie.Need-returns
 returns c =
     let a = c .before .before .before .before in
-    ap (λ (r : Refusal). some (numbered r)) (c .refusal-at .ensures) ∙ refused a 16 ∙ end-missing (file a) (headIn (file a)) _ (a .args .row) (omega arith)
+    ap (λ (r : Refusal). some (numbered r)) (c .refusal-at .ensures) ∙ refused a _ ∙ end-missing (file a) (headIn (file a)) _ (a .args .row) (omega arith)
 
 returns-2 : tie.Need-returns-2
 returns-2 c =
     let w = c .before .before .before in
     let a = w .before .before .before .before in
-    ap (λ (r : Refusal). some (numbered r)) (c .refusal-at2 .ensures) ∙ refused a 16
+    ap (λ (r : Refusal). some (numbered r)) (c .refusal-at2 .ensures) ∙ refused a _
     ∙ end-unequal (file a) (headIn (file a)) _ (a .args .row) (omega arith) (λ e. c .before .if2 .taken (w .word .ensures ∙ word-at a ∙ e ∙ sym (rows-are (a .pre .0))))
 
 returns-3 : tie.Need-returns-3

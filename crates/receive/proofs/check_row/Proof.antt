@@ -56,13 +56,13 @@ module _ (m : tie.Else2) where
 returns : tie.Need-returns
 returns c =
     let a = c .before .before .before .before in
-    ap (λ (r : Refusal). some (numbered r)) (c .refusal-at .ensures) ∙ refused a 16 ∙ row-past (file a) (headIn (file a)) _ (a .args .row) (omega arith)
+    ap (λ (r : Refusal). some (numbered r)) (c .refusal-at .ensures) ∙ refused a _ ∙ row-past (file a) (headIn (file a)) _ (a .args .row) (omega arith)
 
 returns-2 : tie.Need-returns-2
 returns-2 c =
     let w = c .before .before .before in
     let a = w .before .before .before .before in
-    ap (λ (r : Refusal). some (numbered r)) (c .refusal-at2 .ensures) ∙ refused a 16
+    ap (λ (r : Refusal). some (numbered r)) (c .refusal-at2 .ensures) ∙ refused a _
     ∙ row-elsewhere (file a) (headIn (file a)) _ (a .args .row) (omega arith)
     (λ e. c .before .if2 .taken (w .word .ensures ∙ word-at a ∙ e ∙ sym (c .before .before .start-bits .ensures ∙ start-is (a .pre .0 .0) (a .args .row))))
 
