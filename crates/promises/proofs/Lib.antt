@@ -34,3 +34,6 @@ pub mod PrintedLayers
 pub mod Printing
 pub mod Longer
 pub mod Lawful
+pub mod Split
+pub mod Outlook
+pub mod WhichWay
