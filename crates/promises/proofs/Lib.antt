@@ -37,3 +37,4 @@ pub mod Lawful
 pub mod Split
 pub mod Outlook
 pub mod WhichWay
+pub mod Before
