@@ -38,3 +38,4 @@ pub mod Split
 pub mod Outlook
 pub mod WhichWay
 pub mod Before
+pub mod FaultJobs

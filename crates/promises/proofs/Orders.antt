@@ -77,7 +77,7 @@ call-by-line : {X B : Type 0} (call : Call X B) (line : List ℕ) → numbers (c
 call-by-line call line order = by-line (call .checks) (call .value) line order
 
 -- the numbers of a record's checks
-body-numbers : (s : List ℕ) (st : State) (at : ℕ) (k : Kind) → numbers (bodyChecks s st at k) ≡ bodyLine k
+pub body-numbers : (s : List ℕ) (st : State) (at : ℕ) (k : Kind) → numbers (bodyChecks s st at k) ≡ bodyLine k
 unfolding bodyChecks settingsChecks columnChecks
 body-numbers s st at kind.Settings = refl
 body-numbers s st at kind.Column = refl
@@ -99,7 +99,7 @@ file-numbers lent (done job) = refl
 file-numbers lent (refused number place) = refl
 
 -- those of a table file, record after record
-numbers-append : (cs ds : List (Check Numbered)) → numbers (cs ++ ds) ≡ numbers cs ++ numbers ds
+pub numbers-append : (cs ds : List (Check Numbered)) → numbers (cs ++ ds) ≡ numbers cs ++ numbers ds
 numbers-append [] ds = refl
 numbers-append (c ∷ cs) ds = ap (λ (l : List ℕ). c .says .number ∷ l) (numbers-append cs ds)
 
