@@ -39,3 +39,4 @@ pub mod Outlook
 pub mod WhichWay
 pub mod Before
 pub mod FaultJobs
+pub mod FaultTables
