@@ -40,3 +40,4 @@ pub mod WhichWay
 pub mod Before
 pub mod FaultJobs
 pub mod FaultTables
+pub mod FaultOrders

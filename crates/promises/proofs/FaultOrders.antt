@@ -1,0 +1,266 @@
+-- The order file as a file that is read record by record. Its own checks all say 21. A record whose frame passes stands whole in the file, so that what
+-- is read of it is the same in a longer one; only the check that nothing stands behind the end looks further, and more bytes can't quiet it. A lift comes
+-- first, behind it its time, and behind a layer a lift or the finish, which is the grammar. Layer after layer the checks of the file are those of the
+-- records in turn, so that the first that holds is that of the first record at fault. Assumes nothing.
+use mathlib.Core.Path.{_≡_, refl, sym, ap, ap₂, subst, _∙_}
+use mathlib.Core.Logic.{_↔_}
+use mathlib.Core.Bool.{Bool, true, false, not, cond, _&&_, _||_}
+use mathlib.Core.List.{List, [], _∷_, _++_, append-assoc, append-nil}
+use mathlib.Core.Option.{Option, none, some}
+use Prim.Native.Nat.{ℕ, zero, suc, _+_, _*_, _≤_, _<_}
+use native.Mathlib.Omega.{arith}
+use borrow.Author.Tests.{lt-ltb, ltb-true, ltb-false, eqb-true, ne-eqb}
+use lib.Dec.{eqb, ltb}
+use lib.ListN.{length}
+use Rattle.lists.specs.Checks.{Check, first}
+use Rattle.lists.specs.Search.{lowest}
+use Rattle.lists.proofs.Checks.{first-none, first-passed, first-stopped, first-earlier, first-later}
+use Rattle.paper.specs.Layer.{tmax}
+use Rattle.plate.specs.Call.{answerOf}
+use Rattle.plate.specs.Refusal.{Numbered, refused, toldBy}
+use Rattle.plate.proofs.Decided.{refused-first, decided-passed}
+use Rattle.record.specs.Bytes.{le16, le32}
+use Rattle.record.specs.Frame.{lengthAt, kindAt, bodyAt, pastAt, left}
+use Rattle.record.specs.Faults.{cut, disagrees, tail, frameChecks, Framed}
+use Rattle.record.proofs.Frames.{frame-passed}
+use Rattle.printed.specs.Tests.{mayFinish}
+use Rattle.printed.proofs.Records.{none-some}
+use Rattle.orders.specs.Kinds.{liftKind, cureKind, finishKind, floatLength, finishLength, allowedAfter, fits}
+use Rattle.orders.specs.File.{liftPlace, curePlace, noLayers, grown, liftsBy, thicknessAt, liftChecks, cureChecks, finishChecks, nextChecks, finishes, layerChecks, ordersChecks, fileChecks}
+use Rattle.orders.specs.Lent.{lentChecks}
+use Rattle.orders.specs.Reading.{orderIn, readingOrder}
+use Rattle.orders.specs.declared.Stack.{Stack}
+use Rattle.promises.specs.Kinds.{orderAllows}
+use Rattle.promises.specs.Printing.{Lent}
+use Rattle.promises.specs.Reader.{Reader, asks, allowedNext, rightNext, Reached, starts, further, Stops}
+use Rattle.promises.specs.Readers.{OrderKnown, stacked, lifted, orderOwn, orderOnward, orderReader}
+use Rattle.promises.proofs.Longer.{longer, word-longer, quad-longer, kind-longer}
+use Rattle.promises.proofs.Lawful.{NotOfFrame, FramedNext, GoesOn, Lawful}
+use Rattle.promises.proofs.PrintedRecords.{Head}
+use Rattle.promises.proofs.PrintedRead.{lent-fine}
+
+-- ---- checks that all have one number
+
+abbrev Numbers : ℕ → List (Check Numbered) → Type 0
+Numbers number [] = Unit {0}
+Numbers number (c ∷ cs) = (c .says .number ≡ number) × Numbers number cs
+
+first-number : (number : ℕ) (cs : List (Check Numbered)) (r : Numbered) → Numbers number cs → first cs ≡ some r → r .number ≡ number
+first-number number [] r a e = absurd (none-some e)
+first-number number (c ∷ cs) r a e = go (c .holds) e (first-number number cs r (a .1))
+  where
+    go : (b : Bool) → cond b (some (c .says)) (first cs) ≡ some r → (first cs ≡ some r → r .number ≡ number) → r .number ≡ number
+    go true q k = let f : c .says ≡ r = cc in sym (ap (λ (x : Numbered). x .number) f) ∙ a .0
+    go false q k = k q
+
+not-of-frame : {number : ℕ} → number ≡ 21 → NotOfFrame number
+not-of-frame e = record { not-16 = λ q. omega arith; not-19 = λ q. omega arith; not-20 = λ q. omega arith }
+
+module _ (N T step : ℕ) (cures : List ℕ) where
+  abbrev reader : Reader OrderKnown
+  reader = orderReader N T step cures
+
+  own-21 : (file : List ℕ) (known : OrderKnown) → Numbers 21 (reader .own file known)
+  unfolding liftChecks finishChecks
+  own-21 file (stacked read) = go (finishes file (read .layers))
+    where
+      go : (b : Bool) → Numbers 21 (cond b (finishChecks N file read) (liftChecks N T step cures file read))
+      go true = (refl, (refl, tt))
+      go false = (refl, tt)
+  own-21 file (lifted read t) = (refl, tt)
+
+  -- ---- what stands where a frame passes
+
+  module _ (file : List ℕ) where
+    finish-stands : (read : Stack) → FramedNext reader file (stacked read) → finishes file (read .layers) ≡ true
+        → Head file (liftPlace (read .layers)) finishKind finishLength
+    unfolding fits
+    finish-stands read f k =
+        let at = liftPlace (read .layers) in
+        let b = rw k at (f .fits) in
+        let long = eqb-true (lengthAt file at) finishLength b in
+        record { kind-is = eqb-true (kindAt file at) finishKind k; long-is = long; within = omega (arith, f .within) }
+
+    lift-stands : (read : Stack) → FramedNext reader file (stacked read) → finishes file (read .layers) ≡ false
+        → Head file (liftPlace (read .layers)) liftKind floatLength
+    unfolding allowedAfter fits
+    lift-stands read f k =
+        let at = liftPlace (read .layers) in
+        let a = rw k at (f .allows) in
+        let b = rw k at (f .fits) in
+        let long = eqb-true (lengthAt file at) floatLength b in
+        record { kind-is = eqb-true (kindAt file at) liftKind a; long-is = long; within = omega (arith, f .within) }
+
+    cure-stands : (read : Stack) (t : ℕ) → FramedNext reader file (lifted read t) → Head file (curePlace (read .layers)) cureKind floatLength
+    cure-stands read t f =
+        let at = curePlace (read .layers) in
+        let long = eqb-true (lengthAt file at) floatLength (f .fits) in
+        record { kind-is = eqb-true (kindAt file at) cureKind (f .allows); long-is = long; within = omega (arith, f .within) }
+
+    -- where another comes, this one was no finish, and it is known what is known then
+    record Goes (read : Stack) (next : OrderKnown) : Type 0 where
+      no-finish : finishes file (read .layers) ≡ false
+      next-is : lifted read (thicknessAt T step cures file read) ≡ next
+
+    goes : (read : Stack) (next : OrderKnown) → reader .onward file (stacked read) ≡ some next → Goes read next
+    goes read next e = go (finishes file (read .layers)) refl e
+      where
+        go : (b : Bool) → finishes file (read .layers) ≡ b → cond b none (some (lifted read (thicknessAt T step cures file read))) ≡ some next → Goes read next
+        go true k q = absurd (none-some q)
+        go false k q = record { no-finish = k; next-is = cc }
+
+  -- ---- a longer file
+
+  module _ (file more : List ℕ) where
+    finishes-longer : (layers : ℕ) → liftPlace layers + 4 ≤ length file → finishes (file ++ more) layers ≡ finishes file layers
+    finishes-longer layers l = ap (λ (k : ℕ). eqb k finishKind) (kind-longer file more (liftPlace layers) l)
+
+    module _ (read : Stack) where
+      abbrev at : ℕ
+      at = liftPlace (read .layers)
+
+      thickness-longer : at + 8 ≤ length file → thicknessAt T step cures (file ++ more) read ≡ thicknessAt T step cures file read
+      unfolding thicknessAt
+      thickness-longer l =
+          ap (λ (bits : ℕ). lowest (liftsBy T step cures (read .rise) bits) (tmax T) + 1) (quad-longer file more (bodyAt at) (omega arith))
+
+      lift-longer : at + 8 ≤ length file → liftChecks N T step cures (file ++ more) read ≡ liftChecks N T step cures file read
+      unfolding liftChecks
+      lift-longer l = rw (thickness-longer l)
+
+      finish-longer : at + 6 ≤ length file → (r : Numbered) → first (finishChecks N file read) ≡ some r → first (finishChecks N (file ++ more) read) ≡ some r
+      unfolding finishChecks
+      finish-longer l r e =
+          rw (word-longer file more (bodyAt at) (omega arith))
+          (go (not (eqb (le16 file (bodyAt at)) (read .layers) && mayFinish N (read .rise))) (ltb past (length file)) refl e)
+        where
+          past : ℕ
+          past = bodyAt at + finishLength
+
+          go : (b c : Bool) → ltb past (length file) ≡ c
+              → cond b (some (record { number = 21; place = at })) (cond c (some (record { number = 21; place = past })) none) ≡ some r
+              → cond b (some (record { number = 21; place = at })) (cond (ltb past (length (file ++ more))) (some (record { number = 21; place = past })) none) ≡ some r
+          go true c k q = q
+          go false true k q = rw (lt-ltb past (length (file ++ more)) (omega (arith, ltb-true past (length file) k, longer file more))) q
+          go false false k q = absurd (none-some q)
+
+    -- of a lift and of a time it asks the same
+    own-lift : (read : Stack) → FramedNext reader file (stacked read) → finishes file (read .layers) ≡ false
+        → reader .own (file ++ more) (stacked read) ≡ reader .own file (stacked read)
+    own-lift read f k =
+        let h = lift-stands file read f k in
+        simp (finishes-longer (read .layers) (omega arith), k) (lift-longer read (omega arith))
+
+    own-cure : (read : Stack) (t : ℕ) → FramedNext reader file (lifted read t) → reader .own (file ++ more) (lifted read t) ≡ reader .own file (lifted read t)
+    own-cure read t f =
+        let h = cure-stands file read t f in
+        rw (quad-longer file more (bodyAt (curePlace (read .layers))) (omega arith))
+
+    same-fault : (known : OrderKnown) → FramedNext reader file known → (r : Numbered) → first (reader .own file known) ≡ some r
+        → first (reader .own (file ++ more) known) ≡ some r
+    same-fault (stacked read) f r e = go (finishes file (read .layers)) refl
+      where
+        go : (b : Bool) → finishes file (read .layers) ≡ b → first (reader .own (file ++ more) (stacked read)) ≡ some r
+        go true k =
+            let h = finish-stands file read f k in
+            simp (finishes-longer (read .layers) (omega arith), k) (finish-longer read (omega arith) r (simp k at e))
+        go false k = ap first (own-lift read f k) ∙ e
+    same-fault (lifted read t) f r e = ap first (own-cure read t f) ∙ e
+
+    same-onward : (known next : OrderKnown) → FramedNext reader file known → GoesOn reader file known next → GoesOn reader (file ++ more) known next
+    same-onward (stacked read) next f g =
+        let k = goes file read next (g .onward) in
+        let h = lift-stands file read f (k .no-finish) in
+        record {
+          quiet = ap first (own-lift read f (k .no-finish)) ∙ g .quiet;
+          onward = simp (finishes-longer (read .layers) (omega arith), k .no-finish, thickness-longer read (omega arith)) (ap some (k .next-is));
+        }
+    same-onward (lifted read t) next f g = record { quiet = ap first (own-cure read t f) ∙ g .quiet; onward = g .onward }
+
+  -- ---- places
+
+  module _ (file : List ℕ) where
+    next-place : (known next : OrderKnown) → FramedNext reader file known → GoesOn reader file known next
+        → reader .place next ≡ pastAt file (reader .place known)
+    next-place (stacked read) next f g =
+        let k = goes file read next (g .onward) in
+        let h = lift-stands file read f (k .no-finish) in
+        sym (ap (reader .place) (k .next-is)) ∙ omega arith
+    next-place (lifted read t) next f g =
+        let h = cure-stands file read t f in
+        let e : stacked (grown read t) ≡ next = cc in
+        sym (ap (reader .place) e) ∙ omega arith
+
+    finish-last : (read : Stack) → first (finishChecks N file read) ≡ none → length file ≤ bodyAt (liftPlace (read .layers)) + finishLength
+    unfolding finishChecks
+    finish-last read e =
+        ltb-false (bodyAt (liftPlace (read .layers)) + finishLength) (length file) (first-none (finishChecks N file read) .0 e .1 .0)
+
+    last : (known : OrderKnown) → FramedNext reader file known → first (reader .own file known) ≡ none → reader .onward file known ≡ none
+        → length file ≤ pastAt file (reader .place known)
+    last (stacked read) f e o = go (finishes file (read .layers)) refl
+      where
+        go : (b : Bool) → finishes file (read .layers) ≡ b → length file ≤ pastAt file (liftPlace (read .layers))
+        go true k = let h = finish-stands file read f k in omega (arith, finish-last read (simp k at e))
+        go false k = absurd (none-some (sym (simp k at o)))
+    last (lifted read t) f e o = absurd (none-some (sym o))
+
+  -- ---- kinds
+
+  unknown : (known : OrderKnown) (kind : ℕ) → 256 ≤ kind → kind < 512 → reader .allows known kind ≡ false
+  unfolding allowedAfter
+  unknown (stacked read) kind l h = simp (ne-eqb kind finishKind (λ e. omega arith), ne-eqb kind liftKind (λ e. omega arith))
+  unknown (lifted read t) kind l h = ne-eqb kind cureKind (λ e. omega arith)
+
+  -- before the first layer, and behind one
+  none-yet : (kind : ℕ) → allowedAfter 0 kind ≡ eqb kind liftKind
+  unfolding allowedAfter
+  none-yet kind = go (eqb kind finishKind) refl
+    where
+      go : (b : Bool) → eqb kind finishKind ≡ b → cond b false (eqb kind liftKind) ≡ eqb kind liftKind
+      go true k = let e = eqb-true kind finishKind k in sym (ne-eqb kind liftKind (λ q. omega arith))
+      go false k = refl
+
+  some-already : (layers kind : ℕ) → 0 < layers → allowedAfter layers kind ≡ eqb kind liftKind || eqb kind finishKind
+  unfolding allowedAfter
+  some-already layers kind l = rw (lt-ltb 0 layers l) (go (eqb kind finishKind) (eqb kind liftKind))
+    where
+      go : (b c : Bool) → cond b true c ≡ c || b
+      go true true = refl
+      go true false = refl
+      go false true = refl
+      go false false = refl
+
+  framed : (file : List ℕ) (known : OrderKnown) → first (asks reader file known) ≡ none → FramedNext reader file known
+  framed file known e =
+      let at = reader .place known in
+      frame-passed file at (allowedNext reader file known) (rightNext reader file known)
+      (first-earlier (frameChecks file at (allowedNext reader file known) (rightNext reader file known)) (reader .own file known) e)
+
+  kind-test : (file : List ℕ) {known : OrderKnown} {kinds : List ℕ} → Reached reader file known kinds → (kind : ℕ)
+      → reader .allows known kind ≡ orderAllows kinds kind
+  unfolding orderAllows
+  kind-test file starts kind = none-yet kind
+  kind-test file (further {known} {next} {kinds} reached e o) kind = go known next e o
+    where
+      go : (known next : OrderKnown) → first (asks reader file known) ≡ none → reader .onward file known ≡ some next
+          → reader .allows next kind ≡ orderAllows (kindAt file (reader .place known) ∷ kinds) kind
+      go (stacked read) next e o =
+          let k = goes file read next o in
+          let h = lift-stands file read (framed file (stacked read) e) (k .no-finish) in
+          sym (ap (λ (n : OrderKnown). reader .allows n kind) (k .next-is)) ∙ simp (h .kind-is)
+      go (lifted read t) next e o =
+          let h = cure-stands file read t (framed file (lifted read t) e) in
+          let n : stacked (grown read t) ≡ next = cc in
+          sym (ap (λ (n : OrderKnown). reader .allows n kind) n) ∙ some-already (read .layers + 1) kind (omega arith) ∙ simp (h .kind-is)
+
+  pub order-lawful : Lawful (orderReader N T step cures) orderAllows
+  order-lawful = record {
+    own-numbers = λ file known r e. not-of-frame (first-number 21 (reader .own file known) r (own-21 file known) e);
+    same-fault = same-fault;
+    same-onward = same-onward;
+    next-place = next-place;
+    last = last;
+    unknown = unknown;
+    kind-test = kind-test;
+  }
