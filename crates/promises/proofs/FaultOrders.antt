@@ -2,26 +2,26 @@
 -- is read of it is the same in a longer one; only the check that nothing stands behind the end looks further, and more bytes can't quiet it. A lift comes
 -- first, behind it its time, and behind a layer a lift or the finish, which is the grammar. Layer after layer the checks of the file are those of the
 -- records in turn, so that the first that holds is that of the first record at fault. Assumes nothing.
-use mathlib.Core.Path.{_≡_, refl, sym, ap, ap₂, subst, _∙_}
+use mathlib.Core.Path.{_≡_, refl, sym, ap, subst, _∙_}
 use mathlib.Core.Logic.{_↔_}
 use mathlib.Core.Bool.{Bool, true, false, not, cond, _&&_, _||_}
 use mathlib.Core.List.{List, [], _∷_, _++_, append-assoc, append-nil}
 use mathlib.Core.Option.{Option, none, some}
-use Prim.Native.Nat.{ℕ, zero, suc, _+_, _*_, _≤_, _<_}
+use Prim.Native.Nat.{ℕ, zero, suc, _+_, _≤_, _<_}
 use native.Mathlib.Omega.{arith}
 use borrow.Author.Tests.{lt-ltb, ltb-true, ltb-false, eqb-true, ne-eqb}
 use lib.Dec.{eqb, ltb}
 use lib.ListN.{length}
 use Rattle.lists.specs.Checks.{Check, first}
 use Rattle.lists.specs.Search.{lowest}
-use Rattle.lists.proofs.Checks.{first-none, first-passed, first-stopped, first-earlier, first-later}
+use Rattle.lists.proofs.Checks.{first-none, first-passed, first-stopped, first-earlier}
 use Rattle.paper.specs.Layer.{tmax}
 use Rattle.plate.specs.Call.{answerOf}
 use Rattle.plate.specs.Refusal.{Numbered, refused, toldBy}
 use Rattle.plate.proofs.Decided.{refused-first, decided-passed}
-use Rattle.record.specs.Bytes.{le16, le32}
+use Rattle.record.specs.Bytes.{le16}
 use Rattle.record.specs.Frame.{lengthAt, kindAt, bodyAt, pastAt, left}
-use Rattle.record.specs.Faults.{cut, disagrees, tail, frameChecks, Framed}
+use Rattle.record.specs.Faults.{frameChecks}
 use Rattle.record.proofs.Frames.{frame-passed}
 use Rattle.printed.specs.Tests.{mayFinish}
 use Rattle.printed.proofs.Records.{none-some}
@@ -33,7 +33,7 @@ use Rattle.orders.specs.declared.Stack.{Stack}
 use Rattle.promises.specs.Kinds.{orderAllows}
 use Rattle.promises.specs.Printing.{Lent}
 use Rattle.promises.specs.Reader.{Reader, asks, allowedNext, rightNext, Reached, starts, further, Stops}
-use Rattle.promises.specs.Readers.{OrderKnown, stacked, lifted, orderOwn, orderOnward, orderReader}
+use Rattle.promises.specs.Readers.{OrderKnown, stacked, lifted, orderReader}
 use Rattle.promises.proofs.Longer.{longer, word-longer, quad-longer, kind-longer}
 use Rattle.promises.proofs.Lawful.{NotOfFrame, FramedNext, GoesOn, Lawful}
 use Rattle.promises.proofs.PrintedRecords.{Head}
@@ -264,3 +264,141 @@ module _ (N T step : ℕ) (cures : List ℕ) where
     unknown = unknown;
     kind-test = kind-test;
   }
+
+  -- ---- the checks of the file, record after record
+
+  module _ (file : List ℕ) where
+    abbrev all : OrderKnown → List (Check Numbered)
+    all known = asks reader file known
+
+    abbrev orders : ℕ → Stack → List (Check Numbered)
+    orders n read = ordersChecks N T step cures file n read
+
+    abbrev thickness : Stack → ℕ
+    thickness read = thicknessAt T step cures file read
+
+    -- those of the records behind one, with at most so many layers more
+    abbrev behind : ℕ → Option OrderKnown → List (Check Numbered)
+    behind n none = []
+    behind n (some (stacked read)) = orders n read
+    behind n (some (lifted read t)) = all (lifted read t) ++ orders n (grown read t)
+
+    turn : (n : ℕ) (read : Stack) → orders (suc n) read ≡ all (stacked read) ++ behind n (reader .onward file (stacked read))
+    unfolding ordersChecks layerChecks nextChecks cureChecks
+    turn n read = go (finishes file (read .layers))
+      where
+        next : List (Check Numbered)
+        next = nextChecks file (read .layers)
+
+        lifting : List (Check Numbered)
+        lifting = liftChecks N T step cures file read
+
+        curing : List (Check Numbered)
+        curing = cureChecks cures file (read .layers) (thickness read)
+
+        later : List (Check Numbered)
+        later = orders n (grown read (thickness read))
+
+        go : (b : Bool) → next ++ cond b (finishChecks N file read) ((lifting ++ curing) ++ later)
+            ≡ (next ++ cond b (finishChecks N file read) lifting) ++ behind n (cond b none (some (lifted read (thickness read))))
+        go true = sym (append-nil (next ++ finishChecks N file read))
+        go false = ap (λ (l : List (Check Numbered)). next ++ l) (append-assoc lifting curing later) ∙ sym (append-assoc next lifting (curing ++ later))
+
+    -- behind as many layers as there are bytes nothing is left, which a record says first too
+    none-left : (read : Stack) → length file ≤ read .layers → (later : List (Check Numbered)) → first (orders 0 read) ≡ first (all (stacked read) ++ later)
+    unfolding ordersChecks frameChecks
+    none-left read l later = simp (lt-ltb (left file (liftPlace (read .layers))) 4 (omega arith))
+
+    -- ---- from the file to a record
+
+    abbrev Found : Numbered → Type 0
+    Found r = Stops reader file (λ known kinds. first (all known) ≡ some r)
+
+    stage : {known : OrderKnown} {kinds : List ℕ} → Reached reader file known kinds → (later : List (Check Numbered)) (r : Numbered)
+        → first (all known ++ later) ≡ some r → (first (all known) ≡ none → first later ≡ some r → Found r) → Found r
+    stage {known} {kinds} reached later r e on = go (first (all known)) refl
+      where
+        go : (o : Option Numbered) → first (all known) ≡ o → Found r
+        go none p = on p (sym (first-passed (all known) later p) ∙ e)
+        go (some q) p = record { known = known; kinds = kinds; reached = reached; fault = p ∙ (sym (first-stopped (all known) later q p) ∙ e) }
+
+    module _ (n : ℕ) (read : Stack) (r : Numbered) where
+      abbrev next : Stack
+      next = grown read (thickness read)
+
+      found-behind : {kinds : List ℕ} → Reached reader file (stacked read) kinds
+          → ((kinds : List ℕ) → Reached reader file (stacked next) kinds → first (orders n next) ≡ some r → Found r)
+          → first (all (stacked read)) ≡ none → first (behind n (reader .onward file (stacked read))) ≡ some r → Found r
+      found-behind reached on p e = go (finishes file (read .layers)) refl e
+        where
+          go : (b : Bool) → finishes file (read .layers) ≡ b → first (behind n (cond b none (some (lifted read (thickness read))))) ≡ some r → Found r
+          go true k e = absurd (none-some e)
+          go false k e =
+              let up = further {next = lifted read (thickness read)} reached p (simp k) in
+              stage up (orders n next) r e (λ p e. on _ (further up p refl) e)
+
+    found : (n : ℕ) (read : Stack) {kinds : List ℕ} → Reached reader file (stacked read) kinds → length file ≤ n + read .layers → (r : Numbered)
+        → first (orders n read) ≡ some r → Found r
+    found zero read reached room r e = stage reached [] r (sym (none-left read (omega arith) []) ∙ e) (λ p e. absurd (none-some e))
+    found (suc n) read reached room r e =
+        stage reached (behind n (reader .onward file (stacked read))) r (sym (ap first (turn n read)) ∙ e)
+        (found-behind n read r reached (λ kinds d e. found n (grown read (thickness read)) d (omega arith) r e))
+
+    -- ---- from a record to the file
+
+    abbrev layersOf : OrderKnown → ℕ
+    layersOf (stacked read) = read .layers
+    layersOf (lifted read t) = read .layers
+
+    -- the file's checks come down to those of this record and of all behind it
+    record Down (o : Option Numbered) (known : OrderKnown) : Type 0 where
+      more : ℕ
+      room : length file ≤ suc more + layersOf known
+      same : o ≡ first (all known ++ behind more (reader .onward file known))
+
+    down-from : (n : ℕ) (read : Stack) → length file ≤ n + read .layers → Down (first (orders n read)) (stacked read)
+    down-from zero read room = record { more = 0; room = omega arith; same = none-left read (omega arith) (behind 0 (reader .onward file (stacked read))) }
+    down-from (suc n) read room = record { more = n; room = room; same = ap first (turn n read) }
+
+    down-on : {o : Option Numbered} (known next : OrderKnown) → first (all known) ≡ none → reader .onward file known ≡ some next → Down o known → Down o next
+    down-on {o} (stacked read) next p e d =
+        let n = goes file read next e .next-is in
+        subst (Down o) n
+        (record {
+          more = d .more;
+          room = d .room;
+          same =
+              d .same
+              ∙ first-passed (all (stacked read)) (behind (d .more) (reader .onward file (stacked read))) p
+              ∙ ap (λ (q : Option OrderKnown). first (behind (d .more) q)) (e ∙ ap some (sym n));
+        })
+    down-on {o} (lifted read t) next p e d =
+        let n : stacked (grown read t) ≡ next = cc in
+        subst (Down o) n
+        (subst (λ (o : Option Numbered). Down o (stacked (grown read t))) (sym (d .same ∙ first-passed (all (lifted read t)) (orders (d .more) (grown read t)) p))
+        (down-from (d .more) (grown read t) (omega arith)))
+
+    down : {known : OrderKnown} {kinds : List ℕ} → Reached reader file known kinds → Down (first (fileChecks N T step cures file)) known
+    unfolding fileChecks
+    down starts = down-from (length file) noLayers (omega arith)
+    down (further {known} {next} reached p e) = down-on known next p e (down reached)
+
+    decides : (r : Numbered) → (first (fileChecks N T step cures file) ≡ some r) ↔ Found r
+    unfolding fileChecks
+    decides r = (
+      λ e. found (length file) noLayers starts (omega arith) r e,
+      λ s.
+          let d = down (s .reached) in
+          d .same ∙ first-stopped (all (s .known)) (behind (d .more) (reader .onward file (s .known))) r (s .fault),
+    )
+
+  pub order-decides : Lent N T step cures → (number : ℕ) (file : List ℕ) (n place : ℕ) → (answerOf (readingOrder N T step cures file number) ≡ refused n place)
+      ↔ Stops (orderReader N T step cures) file (λ known kinds. first (asks (orderReader N T step cures) file known) ≡ some (record { number = n; place = place }))
+  unfolding readingOrder
+  order-decides l number file n place =
+      let value = orderIn T step cures file number in
+      let passed = decided-passed (lentChecks N T step cures) (fileChecks N T step cures file) value (lent-fine l) in
+      let both = decides file (record { number = n; place = place }) in (
+        λ e. both .0 (refused-first (fileChecks N T step cures file) value n place (sym passed ∙ e)),
+        λ s. passed ∙ ap (λ (o : Option Numbered). toldBy o value) (both .1 s),
+      )
