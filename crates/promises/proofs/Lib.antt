@@ -41,3 +41,4 @@ pub mod Before
 pub mod FaultJobs
 pub mod FaultTables
 pub mod FaultOrders
+pub mod FaultFiles
