@@ -39,7 +39,7 @@ use Rattle.promises.proofs.Lawful.{NotOfFrame, FramedNext, GoesOn, Lawf
 
 -- ---- the numbers of a list
 
-clash : {a : Bool} → a ≡ true → a ≡ false → ⊥
+pub clash : {a : Bool} → a ≡ true → a ≡ false → ⊥
 clash p q = let z : _≡_ {A = Bool} true false = sym p ∙ q in let y : _≡_ {A = ℕ} 0 1 = cc in omega arith
 
 -- a list without a number of a frame's
@@ -85,7 +85,7 @@ module _ (s more : List ℕ) (st : State) (at : ℕ) where
   body-longer kind.Remark f = refl
   body-longer kind.Refused f = refl
 
-  kind-same : at + 4 ≤ length s → recordKind (s ++ more) at ≡ recordKind s at
+  pub kind-same : at + 4 ≤ length s → recordKind (s ++ more) at ≡ recordKind s at
   kind-same l = ap kindOf (kind-longer s more at l)
 
   past-same : at + 4 ≤ length s → pastAt (s ++ more) at ≡ pastAt s at
@@ -131,7 +131,7 @@ module _ (most : ℕ) where
       go kind.Remark = refl
       go kind.Refused = refl
 
-  tail-longer : (s more : List ℕ) (end : ℕ) (r : Numbered) → first (tail s end ∷ []) ≡ some r → first (tail (s ++ more) end ∷ []) ≡ some r
+  pub tail-longer : (s more : List ℕ) (end : ℕ) (r : Numbered) → first (tail s end ∷ []) ≡ some r → first (tail (s ++ more) end ∷ []) ≡ some r
   tail-longer s more end r e = go (ltb end (length s)) refl e
     where
       go : (b : Bool) → ltb end (length s) ≡ b → cond b (some (tail s end .says)) none ≡ some r → first (tail (s ++ more) end ∷ []) ≡ some r
@@ -208,7 +208,7 @@ module _ (most : ℕ) where
   end-last s known kind.Remark f e o = absurd (let z : _≡_ {A = ℕ} 0 1 = cc in omega arith)
   end-last s known kind.Refused f e o = absurd (clash (f .allows) refl)
 
-  unknown-barred : (st : State) (number : ℕ) → 256 ≤ number → number < 512 → allowedHere st (kindOf number) ≡ false
+  pub unknown-barred : (st : State) (number : ℕ) → 256 ≤ number → number < 512 → allowedHere st (kindOf number) ≡ false
   unknown-barred st number low high =
       simp (ne-eqb number 1 (λ e. omega arith), ne-eqb number 2 (λ e. omega arith), ne-eqb number 3 (λ e. omega arith), lt-leb 32_768 number (omega arith))
 

@@ -42,3 +42,4 @@ pub mod FaultJobs
 pub mod FaultTables
 pub mod FaultOrders
 pub mod FaultFiles
+pub mod Faults

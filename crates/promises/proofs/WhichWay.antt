@@ -19,7 +19,7 @@ use Rattle.promises.proofs.Outlook as outlook
 use Rattle.promises.proofs.Outlook.{AtFault}
 
 -- one statement after another
-both : {A B C : Type 0} → A ↔ B → B ↔ C → A ↔ C
+pub both : {A B C : Type 0} → A ↔ B → B ↔ C → A ↔ C
 both f g = (λ a. g .0 (f .0 a), λ c. f .1 (g .1 c))
 
 -- the record stays, and what holds of it is said otherwise
