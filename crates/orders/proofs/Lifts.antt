@@ -1,19 +1,19 @@
 -- A lift is judged by the thickness that it is by. Where no usable thickness leads to its bits, the search ends above tmax, and what is above tmax is
 -- usable in no set. Where one does, it is usable; the first layer may then be so thick, and a later one if the layers below it still leave room.
 -- Layers that passed stay low. Assumes nothing.
-use mathlib.Core.Path.{_≡_, refl, sym, ap, _∙_}
-use mathlib.Core.Bool.{Bool, true, false, not, cond}
+use mathlib.Core.Path.{_≡_, refl}
+use mathlib.Core.Bool.{Bool, true, false, cond}
 use mathlib.Core.List.{List}
 use mathlib.Core.Option.{none, some}
-use Prim.Native.Nat.{ℕ, suc, _+_, _≤_, _<_}
+use Prim.Native.Nat.{ℕ, _+_, _≤_, _<_}
 use native.Mathlib.Omega.{arith}
 use borrow.Author.Tests.{lt-ltb, le-ltb, eq-eqb, ne-eqb}
-use lib.Dec.{ltb, eqb}
+use lib.Dec.{eqb}
 use Rattle.lists.specs.Checks.{first}
 use Rattle.lists.specs.Search.{lowest}
 use Rattle.lists.proofs.Search.{lowest-passes}
 use Rattle.paper.specs.Layer.{tmax}
-use Rattle.paper.proofs.Thicknesses.{and-true, tmax-le}
+use Rattle.paper.proofs.Thicknesses.{and-true}
 use Rattle.record.specs.Bytes.{le32}
 use Rattle.record.specs.Frame.{bodyAt}
 use Rattle.record.specs.Faults.{disagrees}

@@ -2,19 +2,19 @@
 -- what is asked besides. Before the end a record that passes was read as what its kind is, and so goes on or ends. Assumes nothing.
 use mathlib.Core.Path.{_≡_, refl, sym, ap, subst, _∙_}
 use mathlib.Core.Logic.{_↔_, _⊎_, inl, inr}
-use mathlib.Core.Bool.{Bool, true, false, cond}
-use mathlib.Core.List.{List, [], _∷_, _++_, append-assoc, append-nil}
+use mathlib.Core.Bool.{Bool, false, cond}
+use mathlib.Core.List.{List, [], _∷_, _++_, append-assoc}
 use mathlib.Core.Option.{Option, none, some}
 use Prim.Native.Nat.{ℕ}
 use native.Mathlib.Omega.{arith}
 use Rattle.lists.specs.Checks.{Check, first}
-use Rattle.lists.proofs.Checks.{first-passed, first-stopped, first-earlier, first-later}
-use Rattle.plate.specs.Refusal.{Told, done, refused, Numbered, toldBy, decided}
+use Rattle.lists.proofs.Checks.{first-passed, first-stopped, first-earlier}
+use Rattle.plate.specs.Refusal.{done, refused, Numbered, toldBy, decided}
 use Rattle.record.specs.Frame.{lengthAt, pastAt}
 use Rattle.record.specs.Faults.{tail, frameChecks}
 use Rattle.record.proofs.Frames.{frame-passed}
 use Rattle.job.specs.Kinds.{allowedHere, fits}
-use Rattle.job.specs.Record.{What, Moved, moved, whatOf, stateAfter, readingOf, readingAt, again, bodyChecks, kindChecks, recordKind, recordChecks, readRecord}
+use Rattle.job.specs.Record.{Moved, moved, whatOf, stateAfter, readingOf, again, bodyChecks, kindChecks, recordKind, recordChecks, readRecord}
 use Rattle.job.specs.Reached as job
 use Rattle.job.specs.declared.Kind.{Kind}
 use Rattle.job.specs.declared.Kind.the-variants as kind

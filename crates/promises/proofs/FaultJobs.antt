@@ -1,26 +1,24 @@
 -- The job file as a format read record by record. A body stands in the file where its frame passes, so it says the same in every longer file; only what stands
 -- past the end changes. The kind test looks at whether settings were read, which is whether the latest kind but remarks is 1 or 2. Assumes nothing.
 use mathlib.Core.Path.{_≡_, refl, sym, ap, ap₂, subst, _∙_}
-use mathlib.Core.Logic.{_↔_, _⊎_, inl, inr}
 use mathlib.Core.Bool.{Bool, true, false, not, cond, _||_}
-use mathlib.Core.List.{List, [], _∷_, _++_, append-assoc, append-nil}
-use mathlib.Core.Option.{Option, none, some}
-use Prim.Native.Nat.{ℕ, _+_, _*_, _/_, _≤_, _<_}
+use mathlib.Core.List.{List, [], _∷_, _++_}
+use mathlib.Core.Option.{none, some}
+use Prim.Native.Nat.{ℕ, _+_, _/_, _≤_, _<_}
 use native.Mathlib.Omega.{arith}
-use borrow.Author.Tests.{eq-eqb, ne-eqb, eqb-true, lt-leb, le-leb, lt-ltb, ltb-true, ltb-false}
-use lib.Dec.{leb, eqb, ltb}
+use borrow.Author.Tests.{ne-eqb, eqb-true, lt-leb, ltb-false}
+use lib.Dec.{leb, eqb}
 use lib.ListN.{length}
 use Rattle.lists.specs.Checks.{Check, first}
-use Rattle.lists.proofs.Checks.{first-passed, first-stopped, first-earlier, first-later, first-none, or-false}
+use Rattle.lists.proofs.Checks.{first-later, first-none}
 use Rattle.plate.specs.Head.{isFull}
 use Rattle.plate.specs.Refusal.{Numbered, check}
 use Rattle.plate.specs.Settings.{settingsChecks}
 use Rattle.column.specs.Order.{columnChecks}
 use Rattle.record.specs.Bytes.{words}
 use Rattle.record.specs.Frame.{lengthAt, kindAt, bodyAt, pastAt}
-use Rattle.record.specs.Faults.{tail, unequal, frameChecks, Framed}
+use Rattle.record.specs.Faults.{tail, unequal, Framed}
 use Rattle.record.specs.Places.{placed}
-use Rattle.record.proofs.Frames.{frame-passed}
 use Rattle.job.specs.Kinds.{kindOf, allowedHere, fits}
 use Rattle.job.specs.State.{begin}
 use Rattle.job.specs.Record.{askedAt, boundariesAt, countAt, columnsAt, bodyChecks, recordKind, stateAfter}
@@ -30,28 +28,13 @@ use Rattle.job.specs.declared.Kind.the-variants as kind
 use Rattle.job.specs.declared.State.{State}
 use Rattle.load.specs.Load.{tooLarge}
 use Rattle.promises.specs.Orders.{numbers, isOneOf, bodyLine}
-use Rattle.promises.specs.Reader.{Reader, Reached, starts, further, Stops, asks}
+use Rattle.promises.specs.Reader.{Reader, Reached, starts, further}
 use Rattle.promises.specs.Readers.{Standing, besides, jobOnward, jobReader}
 use Rattle.promises.specs.Kinds.{jobAllows}
-use Rattle.promises.proofs.Orders.{first-number, numbers-append, body-numbers}
-use Rattle.promises.proofs.Longer.{longer, word-longer, quad-longer, length-longer, kind-longer, words-longer}
-use Rattle.promises.proofs.Lawful.{NotOfFrame, FramedNext, GoesOn, Lawful}
-
--- ---- the numbers of a list
-
-pub clash : {a : Bool} → a ≡ true → a ≡ false → ⊥
-clash p q = let z : _≡_ {A = Bool} true false = sym p ∙ q in let y : _≡_ {A = ℕ} 0 1 = cc in omega arith
-
--- a list without a number of a frame's
-pub not-of-frame : (cs : List (Check Numbered)) (line : List ℕ) → numbers cs ≡ line → isOneOf 16 line || (isOneOf 19 line || isOneOf 20 line) ≡ false
-    → (r : Numbered) → first cs ≡ some r → NotOfFrame (r .number)
-not-of-frame cs line is none-of r e =
-    let a = or-false (isOneOf 16 line) (isOneOf 19 line || isOneOf 20 line) none-of in
-    let b = or-false (isOneOf 19 line) (isOneOf 20 line) (a .1) in
-    record { not-16 = λ n. never 16 (a .0) n; not-19 = λ n. never 19 (b .0) n; not-20 = λ n. never 20 (b .1) n }
-  where
-    never : (n : ℕ) → isOneOf n line ≡ false → r .number ≡ n → ⊥
-    never n out q = clash (ap (λ (m : ℕ). isOneOf m line) (sym q) ∙ subst (λ (l : List ℕ). isOneOf (r .number) l ≡ true) is (first-number cs r e)) out
+use Rattle.promises.proofs.Orders.{numbers-append, body-numbers}
+use Rattle.promises.proofs.Longer.{word-longer, quad-longer, length-longer, kind-longer, words-longer, tail-longer}
+use Rattle.promises.proofs.Lawful.{NotOfFrame, Lawful, passed-frame}
+use Rattle.promises.proofs.Split.{clash, not-of-frame}
 
 -- ---- a body
 
@@ -131,13 +114,6 @@ module _ (most : ℕ) where
       go kind.Remark = refl
       go kind.Refused = refl
 
-  pub tail-longer : (s more : List ℕ) (end : ℕ) (r : Numbered) → first (tail s end ∷ []) ≡ some r → first (tail (s ++ more) end ∷ []) ≡ some r
-  tail-longer s more end r e = go (ltb end (length s)) refl e
-    where
-      go : (b : Bool) → ltb end (length s) ≡ b → cond b (some (tail s end .says)) none ≡ some r → first (tail (s ++ more) end ∷ []) ≡ some r
-      go true h q = rw (lt-ltb end (length (s ++ more)) (omega (arith, ltb-true end (length s) h, longer s more))) q
-      go false h q = absurd (let z : _≡_ {A = ℕ} 0 1 = cc in omega arith)
-
   module _ (s more : List ℕ) (known : Standing) where
     abbrev at : ℕ
     at = known .at
@@ -151,25 +127,10 @@ module _ (most : ℕ) where
     fault-same kind.Settings f r e =
         ap₂ (λ (cs ds : List (Check Numbered)). first (cs ++ ds)) (body-longer s more st at kind.Settings f) (ap (tooLarge most at) (settings-same s more st at f)) ∙ e
     fault-same kind.Column f r e = ap (λ (cs : List (Check Numbered)). first (cs ++ [])) (body-longer s more st at kind.Column f) ∙ e
-    fault-same kind.End f r e = go (first body) refl
-      where
-        body : List (Check Numbered)
-        body = bodyChecks s st at kind.End
-
-        same : bodyChecks (s ++ more) st at kind.End ≡ body
-        same = body-longer s more st at kind.End f
-
-        past : pastAt (s ++ more) at ≡ pastAt s at
-        past = past-same s more st at (omega (arith, f .within))
-
-        go : (o : Option Numbered) → first body ≡ o → first (ownOf (s ++ more) known kind.End) ≡ some r
-        go (some q) h =
-            first-stopped (bodyChecks (s ++ more) st at kind.End) (tail (s ++ more) (pastAt (s ++ more) at) ∷ []) q (ap first same ∙ h)
-            ∙ sym (first-stopped body (tail s (pastAt s at) ∷ []) q h) ∙ e
-        go none h =
-            first-passed (bodyChecks (s ++ more) st at kind.End) (tail (s ++ more) (pastAt (s ++ more) at) ∷ []) (ap first same ∙ h)
-            ∙ ap (λ (p : ℕ). first (tail (s ++ more) p ∷ [])) past
-            ∙ tail-longer s more (pastAt s at) r (sym (first-passed body (tail s (pastAt s at) ∷ []) h) ∙ e)
+    fault-same kind.End f r e =
+        let body = bodyChecks s st at kind.End in
+        ap₂ (λ (cs : List (Check Numbered)) (p : ℕ). first (cs ++ (tail (s ++ more) p ∷ []))) (body-longer s more st at kind.End f) (past-same s more st at (omega (arith, f .within)))
+        ∙ tail-longer s more body (pastAt s at) r e
     fault-same kind.Remark f r e = e
     fault-same kind.Refused f r e = e
 
@@ -312,10 +273,7 @@ module _ (most : ℕ) where
   unfolding jobAllows
   follows s starts = λ number. refl
   follows s (further {known} {next} {kinds} r e o) =
-      let at = known .at in
-      let k = recordKind s at in
-      let frame = frameChecks s at (allowedHere (known .state) k) (fits k (lengthAt s at)) in
-      step s known next kinds (kindAt s at) o (frame-passed s at (allowedHere (known .state) k) (fits k (lengthAt s at)) (first-earlier frame (ownOf s known k) e) .allows)
+      step s known next kinds (kindAt s (known .at)) o (passed-frame reader s known e .allows)
       (follows s r)
 
   pub job-lawful : Lawful reader jobAllows

@@ -9,20 +9,19 @@ use mathlib.Core.List.{List, [], _∷_, _++_, append-assoc, append-nil}
 use mathlib.Core.Option.{Option, none, some}
 use Prim.Native.Nat.{ℕ, zero, suc, _+_, _≤_, _<_}
 use native.Mathlib.Omega.{arith}
-use borrow.Author.Tests.{lt-ltb, ltb-true, ltb-false, eqb-true, ne-eqb}
-use lib.Dec.{eqb, ltb}
+use borrow.Author.Tests.{lt-ltb, ltb-false, eqb-true, ne-eqb}
+use lib.Dec.{eqb}
 use lib.ListN.{length}
 use Rattle.lists.specs.Checks.{Check, first}
 use Rattle.lists.specs.Search.{lowest}
-use Rattle.lists.proofs.Checks.{first-none, first-passed, first-stopped, first-earlier}
+use Rattle.lists.proofs.Checks.{first-none, first-passed, first-stopped}
 use Rattle.paper.specs.Layer.{tmax}
 use Rattle.plate.specs.Call.{answerOf}
 use Rattle.plate.specs.Refusal.{Numbered, refused, toldBy}
 use Rattle.plate.proofs.Decided.{refused-first, decided-passed}
 use Rattle.record.specs.Bytes.{le16}
 use Rattle.record.specs.Frame.{lengthAt, kindAt, bodyAt, pastAt, left}
-use Rattle.record.specs.Faults.{frameChecks}
-use Rattle.record.proofs.Frames.{frame-passed}
+use Rattle.record.specs.Faults.{disagrees, frameChecks}
 use Rattle.printed.specs.Tests.{mayFinish}
 use Rattle.printed.proofs.Records.{none-some}
 use Rattle.orders.specs.Kinds.{liftKind, cureKind, finishKind, floatLength, finishLength, allowedAfter, fits}
@@ -32,42 +31,27 @@ use Rattle.orders.specs.Reading.{orderIn, readingOrder}
 use Rattle.orders.specs.declared.Stack.{Stack}
 use Rattle.promises.specs.Kinds.{orderAllows}
 use Rattle.promises.specs.Printing.{Lent}
-use Rattle.promises.specs.Reader.{Reader, asks, allowedNext, rightNext, Reached, starts, further, Stops}
+use Rattle.promises.specs.Reader.{Reader, asks, Reached, starts, further, Stops}
 use Rattle.promises.specs.Readers.{OrderKnown, stacked, lifted, orderReader}
-use Rattle.promises.proofs.Longer.{longer, word-longer, quad-longer, kind-longer}
-use Rattle.promises.proofs.Lawful.{NotOfFrame, FramedNext, GoesOn, Lawful}
+use Rattle.promises.proofs.Longer.{word-longer, quad-longer, kind-longer, tail-longer}
+use Rattle.promises.proofs.Lawful.{NotOfFrame, FramedNext, GoesOn, Lawful, passed-frame}
+use Rattle.promises.proofs.Split.{not-of-frame}
 use Rattle.promises.proofs.PrintedRecords.{Head}
 use Rattle.promises.proofs.PrintedRead.{lent-fine}
-
--- ---- checks that all have one number
-
-abbrev Numbers : ℕ → List (Check Numbered) → Type 0
-Numbers number [] = Unit {0}
-Numbers number (c ∷ cs) = (c .says .number ≡ number) × Numbers number cs
-
-first-number : (number : ℕ) (cs : List (Check Numbered)) (r : Numbered) → Numbers number cs → first cs ≡ some r → r .number ≡ number
-first-number number [] r a e = absurd (none-some e)
-first-number number (c ∷ cs) r a e = go (c .holds) e (first-number number cs r (a .1))
-  where
-    go : (b : Bool) → cond b (some (c .says)) (first cs) ≡ some r → (first cs ≡ some r → r .number ≡ number) → r .number ≡ number
-    go true q k = let f : c .says ≡ r = cc in sym (ap (λ (x : Numbered). x .number) f) ∙ a .0
-    go false q k = k q
-
-not-of-frame : {number : ℕ} → number ≡ 21 → NotOfFrame number
-not-of-frame e = record { not-16 = λ q. omega arith; not-19 = λ q. omega arith; not-20 = λ q. omega arith }
 
 module _ (N T step : ℕ) (cures : List ℕ) where
   abbrev reader : Reader OrderKnown
   reader = orderReader N T step cures
 
-  own-21 : (file : List ℕ) (known : OrderKnown) → Numbers 21 (reader .own file known)
+  -- no number of a frame's is among its own
+  own-numbers : (file : List ℕ) (known : OrderKnown) (r : Numbered) → first (reader .own file known) ≡ some r → NotOfFrame (r .number)
   unfolding liftChecks finishChecks
-  own-21 file (stacked read) = go (finishes file (read .layers))
+  own-numbers file (stacked read) r e = go (finishes file (read .layers)) e
     where
-      go : (b : Bool) → Numbers 21 (cond b (finishChecks N file read) (liftChecks N T step cures file read))
-      go true = (refl, (refl, tt))
-      go false = (refl, tt)
-  own-21 file (lifted read t) = (refl, tt)
+      go : (b : Bool) → first (cond b (finishChecks N file read) (liftChecks N T step cures file read)) ≡ some r → NotOfFrame (r .number)
+      go true q = not-of-frame (finishChecks N file read) (21 ∷ 21 ∷ []) refl refl r q
+      go false q = not-of-frame (liftChecks N T step cures file read) (21 ∷ []) refl refl r q
+  own-numbers file (lifted read t) r e = not-of-frame (reader .own file (lifted read t)) (21 ∷ []) refl refl r e
 
   -- ---- what stands where a frame passes
 
@@ -132,17 +116,7 @@ module _ (N T step : ℕ) (cures : List ℕ) where
       unfolding finishChecks
       finish-longer l r e =
           rw (word-longer file more (bodyAt at) (omega arith))
-          (go (not (eqb (le16 file (bodyAt at)) (read .layers) && mayFinish N (read .rise))) (ltb past (length file)) refl e)
-        where
-          past : ℕ
-          past = bodyAt at + finishLength
-
-          go : (b c : Bool) → ltb past (length file) ≡ c
-              → cond b (some (record { number = 21; place = at })) (cond c (some (record { number = 21; place = past })) none) ≡ some r
-              → cond b (some (record { number = 21; place = at })) (cond (ltb past (length (file ++ more))) (some (record { number = 21; place = past })) none) ≡ some r
-          go true c k q = q
-          go false true k q = rw (lt-ltb past (length (file ++ more)) (omega (arith, ltb-true past (length file) k, longer file more))) q
-          go false false k q = absurd (none-some q)
+          (tail-longer file more (disagrees (not (eqb (le16 file (bodyAt at)) (read .layers) && mayFinish N (read .rise))) at ∷ []) (bodyAt at + finishLength) r e)
 
     -- of a lift and of a time it asks the same
     own-lift : (read : Stack) → FramedNext reader file (stacked read) → finishes file (read .layers) ≡ false
@@ -231,12 +205,6 @@ module _ (N T step : ℕ) (cures : List ℕ) where
       go false true = refl
       go false false = refl
 
-  framed : (file : List ℕ) (known : OrderKnown) → first (asks reader file known) ≡ none → FramedNext reader file known
-  framed file known e =
-      let at = reader .place known in
-      frame-passed file at (allowedNext reader file known) (rightNext reader file known)
-      (first-earlier (frameChecks file at (allowedNext reader file known) (rightNext reader file known)) (reader .own file known) e)
-
   kind-test : (file : List ℕ) {known : OrderKnown} {kinds : List ℕ} → Reached reader file known kinds → (kind : ℕ)
       → reader .allows known kind ≡ orderAllows kinds kind
   unfolding orderAllows
@@ -247,16 +215,16 @@ module _ (N T step : ℕ) (cures : List ℕ) where
           → reader .allows next kind ≡ orderAllows (kindAt file (reader .place known) ∷ kinds) kind
       go (stacked read) next e o =
           let k = goes file read next o in
-          let h = lift-stands file read (framed file (stacked read) e) (k .no-finish) in
+          let h = lift-stands file read (passed-frame reader file (stacked read) e) (k .no-finish) in
           sym (ap (λ (n : OrderKnown). reader .allows n kind) (k .next-is)) ∙ simp (h .kind-is)
       go (lifted read t) next e o =
-          let h = cure-stands file read t (framed file (lifted read t) e) in
+          let h = cure-stands file read t (passed-frame reader file (lifted read t) e) in
           let n : stacked (grown read t) ≡ next = cc in
           sym (ap (λ (n : OrderKnown). reader .allows n kind) n) ∙ some-already (read .layers + 1) kind (omega arith) ∙ simp (h .kind-is)
 
   pub order-lawful : Lawful (orderReader N T step cures) orderAllows
   order-lawful = record {
-    own-numbers = λ file known r e. not-of-frame (first-number 21 (reader .own file known) r (own-21 file known) e);
+    own-numbers = own-numbers;
     same-fault = same-fault;
     same-onward = same-onward;
     next-place = next-place;

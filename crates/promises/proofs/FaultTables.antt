@@ -9,11 +9,11 @@ use mathlib.Core.List.{List, [], _∷_, _++_}
 use mathlib.Core.Option.{Option, none, some}
 use Prim.Native.Nat.{ℕ, zero, suc, _+_, _≤_, _<_}
 use native.Mathlib.Omega.{arith}
-use borrow.Author.Tests.{lt-ltb, ltb-true, ltb-false, ne-eqb, eqb-true}
+use borrow.Author.Tests.{lt-ltb, ltb-false, ne-eqb, eqb-true}
 use lib.Dec.{ltb, eqb}
 use lib.ListN.{length}
 use Rattle.lists.specs.Checks.{Check, first}
-use Rattle.lists.proofs.Checks.{first-none, first-passed, first-stopped, first-earlier, first-later}
+use Rattle.lists.proofs.Checks.{first-none, first-passed, first-stopped}
 use Rattle.paper.specs.Layer.{tmax}
 use Rattle.plate.specs.Head.{heldIn}
 use Rattle.plate.specs.Refusal.{Numbered, check, refused, toldBy}
@@ -21,8 +21,7 @@ use Rattle.plate.specs.Settings.{settingsChecks}
 use Rattle.plate.specs.declared.head.Head.{Head}
 use Rattle.plate.proofs.Decided.{refused-first}
 use Rattle.record.specs.Frame.{lengthAt, kindAt, bodyAt, pastAt}
-use Rattle.record.specs.Faults.{disagrees, frameChecks}
-use Rattle.record.proofs.Frames.{frame-passed}
+use Rattle.record.specs.Faults.{disagrees}
 use Rattle.sent.specs.Kinds.{headKind, rowKind, endKind, headLength, rowLength, endLength, allowedAfter, fits}
 use Rattle.sent.specs.Start.{rowStart, twos16}
 use Rattle.sent.specs.Written.{rowsOf}
@@ -30,24 +29,13 @@ use Rattle.sent.specs.File.{headIn, openingChecks, rowPlace, someOver, rowCheck
 use Rattle.sent.proofs.Rows.{place-first, place-next}
 use Rattle.receive.proofs.Asks.{end-missing, row-past, rows-stop, rows-next}
 use Rattle.promises.specs.Kinds.{tableAllows}
-use Rattle.promises.specs.Reader.{asks, allowedNext, rightNext, Reached, Stops, starts, further}
+use Rattle.promises.specs.Reader.{asks, Reached, Stops, starts, further}
 use Rattle.promises.specs.Readers.{TableKnown, opening, behind, tableReader, tableOwn, tableOnward, rowOnward}
-use Rattle.promises.proofs.Lawful.{NotOfFrame, FramedNext, GoesOn, Lawful}
-use Rattle.promises.proofs.Longer.{longer, word-longer, quad-longer, kind-longer, quads-longer}
+use Rattle.promises.proofs.Lawful.{NotOfFrame, FramedNext, GoesOn, Lawful, passed-frame, passed-own}
+use Rattle.promises.proofs.Split.{not-of-frame}
+use Rattle.promises.proofs.Longer.{word-longer, quad-longer, kind-longer, quads-longer, tail-longer}
 
 -- ---- a record that passes, and what comes behind it
-
--- the frame of what passes
-passed-frame : (s : List ℕ) (known : TableKnown) → first (asks tableReader s known) ≡ none → FramedNext tableReader s known
-passed-frame s known e =
-    let at = tableReader .place known in
-    let allowed = allowedNext tableReader s known in
-    let right = rightNext tableReader s known in
-    frame-passed s at allowed right (first-earlier (frameChecks s at allowed right) (tableOwn s known) e)
-
-passed-own : (s : List ℕ) (known : TableKnown) → first (asks tableReader s known) ≡ none → first (tableOwn s known) ≡ none
-passed-own s known e =
-    first-later (frameChecks s (tableReader .place known) (allowedNext tableReader s known) (rightNext tableReader s known)) (tableOwn s known) e
 
 -- the place where row r goes
 abbrev standing : Head → ℕ → ℕ
@@ -138,7 +126,7 @@ module _ (s : List ℕ) where
     first-rows head (suc left) r reached e =
         let here = behind head (suc left) r in
         first-at here (behind head left (suc r)) reached e
-        (λ q. row-onward s head left r (row-passes s head left r (passed-own s here q))) (first-rows head left (suc r))
+        (λ q. row-onward s head left r (row-passes s head left r (passed-own tableReader s here q))) (first-rows head left (suc r))
 
     first-stops : first (fileChecks s) ≡ some fault → Stops tableReader s Faulty
     first-stops e =
@@ -156,33 +144,14 @@ table-decides file number place =
 
 -- ---- no number of a frame's is among its own
 
--- none of the numbers of these checks
-abbrev Others : List (Check Numbered) → Type 0
-Others [] = Unit {0}
-Others (c ∷ cs) = NotOfFrame (c .says .number) × Others cs
-
-first-other : (cs : List (Check Numbered)) (r : Numbered) → Others cs → first cs ≡ some r → NotOfFrame (r .number)
-first-other [] r o e = absurd (let z : _≡_ {A = ℕ} 0 1 = cc in omega arith)
-first-other (c ∷ cs) r o e = go (c .holds) e (first-other cs r (o .1))
-  where
-    go : (b : Bool) → cond b (some (c .says)) (first cs) ≡ some r → (first cs ≡ some r → NotOfFrame (r .number)) → NotOfFrame (r .number)
-    go true q k = let is : c .says .number ≡ r .number = cc in rw is at (o .0)
-    go false q k = k q
-
-settings-number : (number : ℕ) → number < 16 → NotOfFrame number
-settings-number number l = record { not-16 = λ e. omega arith; not-19 = λ e. omega arith; not-20 = λ e. omega arith }
-
-contents-number : NotOfFrame 21
-contents-number = record { not-16 = λ e. omega arith; not-19 = λ e. omega arith; not-20 = λ e. omega arith }
-
-own-others : (s : List ℕ) (known : TableKnown) → Others (tableOwn s known)
+own-numbers : (s : List ℕ) (known : TableKnown) (r : Numbered) → first (tableOwn s known) ≡ some r → NotOfFrame (r .number)
 unfolding settingsChecks rowChecks endChecks
-own-others s opening = (settings-number 1 (omega arith), (settings-number 2 (omega arith), (settings-number 7 (omega arith), tt)))
-own-others s (behind head left r) = go (isEnd s head r)
+own-numbers s opening fault e = not-of-frame (tableOwn s opening) (1 ∷ 2 ∷ 7 ∷ []) refl refl fault e
+own-numbers s (behind head left r) fault e = go (isEnd s head r) e
   where
-    go : (b : Bool) → Others (cond b (endChecks s head left r) (rowChecks s head left r))
-    go true = (contents-number, (contents-number, tt))
-    go false = (contents-number, (settings-number 6 (omega arith), tt))
+    go : (b : Bool) → first (cond b (endChecks s head left r) (rowChecks s head left r)) ≡ some fault → NotOfFrame (fault .number)
+    go true q = not-of-frame (endChecks s head left r) (21 ∷ 21 ∷ []) refl refl fault q
+    go false q = not-of-frame (rowChecks s head left r) (21 ∷ 6 ∷ []) refl refl fault q
 
 -- ---- what a frame that passed says
 
@@ -236,16 +205,8 @@ module _ (s more : List ℕ) where
     unfolding endChecks
     end-fault h fault e =
         let long = end-long s head left r f h in
-        let past = bodyAt (standing head r) + endLength in
         rw (word-longer s more (bodyAt (standing head r)) (omega (arith, f .within)))
-        (go (rowsWrong s head left r) (ltb past (length s)) (λ q. lt-ltb past (length (s ++ more)) (omega (arith, ltb-true past (length s) q, longer s more))) e)
-      where
-        go : (wrong some-past : Bool) → (some-past ≡ true → ltb (bodyAt (standing head r) + endLength) (length (s ++ more)) ≡ true)
-            → first (disagrees wrong (standing head r) ∷ disagrees some-past (bodyAt (standing head r) + endLength) ∷ []) ≡ some fault
-            → first (disagrees wrong (standing head r) ∷ disagrees (ltb (bodyAt (standing head r) + endLength) (length (s ++ more))) (bodyAt (standing head r) + endLength) ∷ []) ≡ some fault
-        go true some-past k q = q
-        go false true k q = rw (k refl) q
-        go false false k q = absurd (let z : _≡_ {A = ℕ} 0 1 = cc in omega arith)
+        (tail-longer s more (disagrees (rowsWrong s head left r) (standing head r) ∷ []) (bodyAt (standing head r) + endLength) fault e)
 
     record-fault : (fault : Numbered) → first (tableOwn s (behind head left r)) ≡ some fault → first (tableOwn (s ++ more) (behind head left r)) ≡ some fault
     record-fault fault e = rw end-longer (go (isEnd s head r) refl e)
@@ -332,11 +293,11 @@ kinds-next : (s : List ℕ) (known next : TableKnown) (kinds : List ℕ) (kind :
     → tableReader .allows next kind ≡ tableAllows (kindAt s (tableReader .place known) ∷ kinds) kind
 kinds-next s opening next kinds kind e o =
     let is : behind (headIn s) (rowsOf (headIn s)) 0 ≡ next = cc in
-    let head-kind = eqb-true (kindAt s 0) headKind (passed-frame s opening e .allows) in
+    let head-kind = eqb-true (kindAt s 0) headKind (passed-frame tableReader s opening e .allows) in
     rw (← is, head-kind) (after-head kinds kind)
 kinds-next s (behind head left r) next kinds kind e o =
     let q = onward-row s head left r next o in
-    rw (q .3, row-kind s head left r (passed-frame s (behind head left r) e) (q .0)) (after-row r kinds kind)
+    rw (q .3, row-kind s head left r (passed-frame tableReader s (behind head left r) e) (q .0)) (after-row r kinds kind)
 
 kind-test : (s : List ℕ) {known : TableKnown} {kinds : List ℕ} → Reached tableReader s known kinds → (kind : ℕ)
     → tableReader .allows known kind ≡ tableAllows kinds kind
@@ -346,7 +307,7 @@ kind-test s (further {known} {next} {kinds} reached e o) kind = kinds-next s kno
 
 pub table-lawful : Lawful tableReader tableAllows
 table-lawful = record {
-  own-numbers = λ file known r e. first-other (tableOwn file known) r (own-others file known) e;
+  own-numbers = own-numbers;
   same-fault = same-fault;
   same-onward = same-onward;
   next-place = next-place;

@@ -1,11 +1,11 @@
 -- Document 02 f): each format by its laws and by how its first record at fault decides; and a record of a job file that is read by itself, in whatever state, by
 -- the same split of one record and by the same bodies. Assumes nothing.
 use mathlib.Core.Path.{_≡_, refl, sym, ap, subst, _∙_}
-use mathlib.Core.Logic.{_↔_, _⊎_, inl, inr}
+use mathlib.Core.Logic.{_↔_, inl, inr}
 use mathlib.Core.Bool.{Bool, true, false, not, cond, _||_}
 use mathlib.Core.List.{List, [], _∷_, _++_}
 use mathlib.Core.Option.{Option, none, some}
-use Prim.Native.Nat.{ℕ, _+_, _≤_, _<_}
+use Prim.Native.Nat.{ℕ, _+_, _<_}
 use native.Mathlib.Omega.{arith}
 use borrow.Author.Tests.{lt-ltb, ltb-true}
 use lib.Dec.{ltb}
@@ -20,7 +20,7 @@ use Rattle.record.specs.Bytes.{Bytes}
 use Rattle.record.specs.Frame.{lengthAt}
 use Rattle.record.specs.Faults.{tail, frameChecks, Framed}
 use Rattle.job.specs.Kinds.{kindOf, allowedHere, fits}
-use Rattle.job.specs.Record.{bodyChecks, kindChecks, recordKind, recordChecks, readingAt, readRecord}
+use Rattle.job.specs.Record.{bodyChecks, kindChecks, recordKind, recordChecks, readingAt}
 use Rattle.job.specs.declared.Kind.{Kind}
 use Rattle.job.specs.declared.Kind.the-variants as kind
 use Rattle.job.specs.declared.State.{State}
@@ -29,15 +29,16 @@ use Rattle.sent.specs.File.{headIn, cellsIn, fileChecks, tableFile}
 use Rattle.receive.specs.Receiving.{receiving, readAnswer}
 use Rattle.orders.specs.Reading.{readingOrder}
 use Rattle.promises.specs.Orders.{isOneOf, bodyLine}
-use Rattle.promises.specs.Reader.{RunsOut, KindBarred}
-use Rattle.promises.specs.Faults.{Outlook, readAlone, RecordAlone, Faults}
+use Rattle.promises.specs.Reader.{RunsOut}
+use Rattle.promises.specs.Faults.{readAlone, RecordAlone, Faults}
 use Rattle.promises.proofs.Refusals.{record-told}
 use Rattle.promises.proofs.Orders.{body-numbers}
+use Rattle.promises.proofs.Longer.{tail-longer}
 use Rattle.promises.proofs.Lawful.{NotOfFrame}
-use Rattle.promises.proofs.Split.{said, said-number, said-place, sixteen, nineteen, twenty, twenty-one}
+use Rattle.promises.proofs.Split.{said, said-number, said-place, clash, not-of-frame, sixteen, nineteen, twenty, twenty-one}
 use Rattle.promises.proofs.Outlook.{ones, bytes-with-ones, lacking, filled, Mended, mended, fault-longer}
 use Rattle.promises.proofs.WhichWay.{both, which-way}
-use Rattle.promises.proofs.FaultJobs.{clash, not-of-frame, body-longer, kind-same, unknown-barred, tail-longer, job-lawful}
+use Rattle.promises.proofs.FaultJobs.{body-longer, kind-same, unknown-barred, job-lawful}
 use Rattle.promises.proofs.FaultFiles.{job-decides}
 use Rattle.promises.proofs.FaultTables.{table-lawful, table-decides}
 use Rattle.promises.proofs.FaultOrders.{order-lawful, order-decides}
@@ -113,7 +114,7 @@ module _ (st : State) (at : ℕ) where
       go : (b : Bool) → st .ended ≡ b → readAlone st at (s ++ more) ≡ refused number place
       go true h =
           by-list (s ++ more) st at (tail (s ++ more) at ∷ []) (asked-after (s ++ more) st at h) number place .1
-          (tail-longer 0 s more at (said number place) (by-list s st at (tail s at ∷ []) (asked-after s st at h) number place .0 e))
+          (tail-longer s more [] at (said number place) (by-list s st at (tail s at ∷ []) (asked-after s st at h) number place .0 e))
       go false h =
           by-list (s ++ more) st at _ (asked-before (s ++ more) st at h) number place .1
           (fault-longer at allows fitting s more (body s st at) (body (s ++ more) st at) body-same (said number place)

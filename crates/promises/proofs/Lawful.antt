@@ -1,16 +1,19 @@
 -- What is asked of a format so that the numbers of its faults tell which way a file is broken: its own checks have no number of a frame's; bytes behind a
--- whole record change nothing of what is said of it, but that nothing may stand behind the end; and its kind test is its grammar's. Assumes nothing.
+-- whole record change nothing of what is said of it, but that nothing may stand behind the end; and its kind test is its grammar's. A record passes exactly
+-- where its frame and its own checks do. Assumes nothing.
 use Prim.Native.Nat.{ℕ, _≤_, _<_}
-use mathlib.Core.Path.{_≡_}
+use mathlib.Core.Path.{_≡_, _∙_}
 use mathlib.Core.Bool.{Bool, false}
 use mathlib.Core.List.{List, _++_}
 use mathlib.Core.Option.{none, some}
 use lib.ListN.{length}
-use Rattle.lists.specs.Checks.{first}
+use Rattle.lists.specs.Checks.{Check, first}
+use Rattle.lists.proofs.Checks.{first-passed, first-earlier, first-later}
 use Rattle.plate.specs.Refusal.{Numbered}
 use Rattle.record.specs.Frame.{pastAt}
-use Rattle.record.specs.Faults.{Framed}
-use Rattle.promises.specs.Reader.{Reader, allowedNext, rightNext, Reached}
+use Rattle.record.specs.Faults.{frameChecks, Framed}
+use Rattle.record.proofs.Frames.{frame-passed, frame-passes}
+use Rattle.promises.specs.Reader.{Reader, allowedNext, rightNext, asks, Reached}
 
 -- the number is none of a frame's
 pub record NotOfFrame (number : ℕ) : Type 0 where
@@ -41,3 +44,20 @@ module _ {Known : Type 0} (reader : Reader Known) where
     -- there are kinds that no format has
     pub unknown : (known : Known) (kind : ℕ) → 256 ≤ kind → kind < 512 → reader .allows known kind ≡ false
     pub kind-test : (file : List ℕ) {known : Known} {kinds : List ℕ} → Reached reader file known kinds → (kind : ℕ) → reader .allows known kind ≡ grammar kinds kind
+
+  -- ---- a record passes exactly where its frame and its own checks do
+
+  module _ (file : List ℕ) (known : Known) where
+    abbrev frame : List (Check Numbered)
+    frame = frameChecks file (reader .place known) (allowedNext reader file known) (rightNext reader file known)
+
+    pub passed-frame : first (asks reader file known) ≡ none → FramedNext file known
+    passed-frame e =
+        frame-passed file (reader .place known) (allowedNext reader file known) (rightNext reader file known) (first-earlier frame (reader .own file known) e)
+
+    pub passed-own : first (asks reader file known) ≡ none → first (reader .own file known) ≡ none
+    passed-own e = first-later frame (reader .own file known) e
+
+    pub whole-passes : FramedNext file known → first (reader .own file known) ≡ none → first (asks reader file known) ≡ none
+    whole-passes f e =
+        first-passed frame (reader .own file known) (frame-passes file (reader .place known) (allowedNext reader file known) (rightNext reader file known) f) ∙ e

@@ -1,11 +1,20 @@
--- What is read of a file's bytes is read of every longer file that begins with it, as long as they stand in it. Assumes nothing.
-use mathlib.Core.Path.{_≡_, refl, ap₂}
+-- What is read of a file's bytes is read of every longer file that begins with it, as long as they stand in it; and bytes that stand past its end stand past it
+-- there too. Assumes nothing.
+use mathlib.Core.Path.{_≡_, refl, sym, ap₂, _∙_}
+use mathlib.Core.Bool.{Bool, true, false, cond}
 use mathlib.Core.List.{List, [], _∷_, _++_}
+use mathlib.Core.Option.{Option, none, some}
 use Prim.Native.Nat.{ℕ, zero, suc, _+_, _*_, _≤_, _<_}
 use native.Mathlib.Omega.{arith}
-use lib.ListN.{length, getD, length-append, List·getD-append}
+use borrow.Author.Tests.{lt-ltb, ltb-true}
+use lib.Dec.{ltb}
+use lib.ListN.{length, length-append, List·getD-append}
+use Rattle.lists.specs.Checks.{Check, first}
+use Rattle.lists.proofs.Checks.{first-passed, first-stopped}
+use Rattle.plate.specs.Refusal.{Numbered}
 use Rattle.record.specs.Bytes.{le16, le32, numbers, words, quads}
-use Rattle.record.specs.Frame.{lengthAt, kindAt, pastAt}
+use Rattle.record.specs.Frame.{lengthAt, kindAt}
+use Rattle.record.specs.Faults.{tail}
 
 module _ (s more : List ℕ) where
   pub longer : length s ≤ length (s ++ more)
@@ -41,3 +50,16 @@ module _ (s more : List ℕ) where
   pub quads-longer : (start n : ℕ) → start + 4 * n ≤ length s → quads (s ++ more) start n ≡ quads s start n
   unfolding quads
   quads-longer start n l = numbers-longer (le32 s) (le32 (s ++ more)) 4 start n (λ k j. quad-longer (start + 4 * k) (omega arith))
+
+  -- bytes after the end, behind checks that say the same
+  pub tail-longer : (cs : List (Check Numbered)) (end : ℕ) (r : Numbered) → first (cs ++ (tail s end ∷ [])) ≡ some r → first (cs ++ (tail (s ++ more) end ∷ [])) ≡ some r
+  tail-longer cs end r e = before (first cs) refl
+    where
+      last : (b : Bool) → ltb end (length s) ≡ b → cond b (some (tail s end .says)) none ≡ some r → first (tail (s ++ more) end ∷ []) ≡ some r
+      last true h q = rw (lt-ltb end (length (s ++ more)) (omega (arith, ltb-true end (length s) h, longer))) q
+      last false h q = absurd (let z : _≡_ {A = ℕ} 0 1 = cc in omega arith)
+
+      before : (o : Option Numbered) → first cs ≡ o → first (cs ++ (tail (s ++ more) end ∷ [])) ≡ some r
+      before none h =
+          first-passed cs (tail (s ++ more) end ∷ []) h ∙ last (ltb end (length s)) refl (sym (first-passed cs (tail s end ∷ []) h) ∙ e)
+      before (some q) h = first-stopped cs (tail (s ++ more) end ∷ []) q h ∙ sym (first-stopped cs (tail s end ∷ []) q h) ∙ e

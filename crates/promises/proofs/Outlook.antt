@@ -4,23 +4,21 @@
 -- record of no known kind is refused, or anything behind the end. Assumes nothing.
 use mathlib.Core.Path.{_≡_, refl, sym, ap, ap₂, subst, _∙_}
 use mathlib.Core.Logic.{_⊎_, inl, inr}
-use mathlib.Core.Bool.{Bool, true, false}
+use mathlib.Core.Bool.{Bool, false}
 use mathlib.Core.List.{List, [], _∷_, _++_}
 use mathlib.Core.Option.{Option, none, some}
-use Prim.Native.Nat.{ℕ, zero, suc, _+_, _*_, _≤_, _<_}
+use Prim.Native.Nat.{ℕ, zero, suc, _+_, _≤_, _<_}
 use native.Mathlib.Omega.{arith}
-use lib.ListN.{length, getD, length-append, List·getD-append}
+use lib.ListN.{length, getD, length-append}
 use Rattle.lists.specs.Checks.{Check, first}
-use Rattle.lists.proofs.Checks.{first-passed, first-earlier, first-later}
 use Rattle.plate.specs.Refusal.{Numbered}
 use Rattle.record.specs.Bytes.{Bytes, le16}
-use Rattle.record.specs.Frame.{left, lengthAt, kindAt, bodyAt, pastAt}
+use Rattle.record.specs.Frame.{lengthAt, kindAt, pastAt}
 use Rattle.record.specs.Faults.{frameChecks, Framed}
-use Rattle.record.proofs.Frames.{frame-passed, frame-passes}
 use Rattle.record.proofs.Spelled.{bytes-append}
-use Rattle.promises.specs.Reader.{Reader, allowedNext, rightNext, asks, Reached, starts, further, Stops, RunsOut, KindBarred, LengthWrong}
+use Rattle.promises.specs.Reader.{Reader, allowedNext, rightNext, asks, Reached, starts, further, Stops, RunsOut, KindBarred}
 use Rattle.promises.proofs.Longer.{longer, length-longer, kind-longer}
-use Rattle.promises.proofs.Lawful.{FramedNext, GoesOn, Lawful}
+use Rattle.promises.proofs.Lawful.{FramedNext, Lawful, passed-frame, passed-own, whole-passes}
 use Rattle.promises.proofs.Split.{said, which, by-frame, by-own, Broken}
 
 -- ---- ones
@@ -144,27 +142,15 @@ module _ {Known : Type 0} {reader : Reader Known} {grammar : List ℕ → ℕ �
   abbrev place : Known → ℕ
   place = reader .place
 
-  passed-whole : (s : List ℕ) (known : Known) → first (asks reader s known) ≡ none → FramedNext reader s known × (first (reader .own s known) ≡ none)
-  passed-whole s known e =
-      let frame = frameChecks s (place known) (allowedNext reader s known) (rightNext reader s known) in (
-        frame-passed s (place known) (allowedNext reader s known) (rightNext reader s known) (first-earlier frame (reader .own s known) e),
-        first-later frame (reader .own s known) e,
-      )
-
-  whole-passes : (s : List ℕ) (known : Known) → FramedNext reader s known → first (reader .own s known) ≡ none → first (asks reader s known) ≡ none
-  whole-passes s known f e =
-      let frame = frameChecks s (place known) (allowedNext reader s known) (rightNext reader s known) in
-      first-passed frame (reader .own s known) (frame-passes s (place known) (allowedNext reader s known) (rightNext reader s known) f) ∙ e
-
   pub reached-longer : (s more : List ℕ) {known : Known} {kinds : List ℕ} → Reached reader s known kinds → Reached reader (s ++ more) known kinds
   reached-longer s more starts = starts
   reached-longer s more (further {known} {next} {kinds} r e o) =
-      let p = passed-whole s known e in
-      let g = law .same-onward s more known next (p .0) (record { quiet = p .1; onward = o }) in
-      let f = whole-longer (place known) (reader .allows known) (reader .fits known) s more (p .0) in
-      let l : place known + 4 ≤ length s = omega (arith, p .0 .within) in
+      let p = passed-frame reader s known e in
+      let g = law .same-onward s more known next p (record { quiet = passed-own reader s known e; onward = o }) in
+      let f = whole-longer (place known) (reader .allows known) (reader .fits known) s more p in
+      let l : place known + 4 ≤ length s = omega (arith, p .within) in
       subst (λ (k : ℕ). Reached reader (s ++ more) next (k ∷ kinds)) (kind-longer s more (place known) l)
-      (further (reached-longer s more r) (whole-passes (s ++ more) known f (g .quiet)) (g .onward))
+      (further (reached-longer s more r) (whole-passes reader (s ++ more) known f (g .quiet)) (g .onward))
 
   -- a record at fault that is reached
   abbrev pub AtFault : List ℕ → Numbered → Type 0
@@ -225,7 +211,7 @@ module _ {Known : Type 0} {reader : Reader Known} {grammar : List ℕ → ℕ �
             let p = law .next-place long known next f (record { quiet = q; onward = e }) in
             let n = with-ones s added in
             let k = foreign s added (place next) byte (omega (arith, p)) (omega (arith, p, n)) in
-            barred (further there (whole-passes long known f q) e) (omega (arith, p), law .unknown next (kindAt long (place next)) (k .0) (k .1))
+            barred (further there (whole-passes reader long known f q) e) (omega (arith, p), law .unknown next (kindAt long (place next)) (k .0) (k .1))
 
         own : FramedNext reader long known → length s ≤ pastAt long at → pastAt long at + 4 ≤ length long → (o : Option Numbered) → first (reader .own long known) ≡ o
             → Otherwise s

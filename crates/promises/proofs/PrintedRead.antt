@@ -1,7 +1,7 @@
 -- Reading an order file. What is lent is in order, so that the checks of the file decide: where they pass, the file is that of a sequence, and every
 -- sequence with this file has the same records, so that the order is the same whichever is taken; where one holds, its place is the fault's, of
 -- which there is one only. Assumes nothing.
-use mathlib.Core.Path.{_≡_, refl, sym, ap, ap₂, subst, _∙_}
+use mathlib.Core.Path.{_≡_, refl, sym, ap, subst, _∙_}
 use mathlib.Core.Logic.{inl, inr}
 use mathlib.Core.List.{List, [], _∷_}
 use mathlib.Core.Option.{Option, none}

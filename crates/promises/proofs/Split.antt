@@ -2,20 +2,22 @@
 -- decides, by no number of a frame's. So each number is given exactly where its way of being broken holds. Assumes nothing.
 use mathlib.Core.Path.{_≡_, refl, sym, ap, subst, _∙_}
 use mathlib.Core.Logic.{_↔_, _⊎_, inl, inr}
-use mathlib.Core.Bool.{Bool, true, false, not}
+use mathlib.Core.Bool.{Bool, true, false, _||_}
 use mathlib.Core.List.{List, _++_}
 use mathlib.Core.Option.{some}
-use Prim.Native.Nat.{ℕ, _+_, _≤_, _<_}
+use Prim.Native.Nat.{ℕ, _+_, _≤_}
 use native.Mathlib.Omega.{arith}
 use borrow.Author.Tests.{ltb-true, ltb-false}
 use lib.Dec.{ltb}
 use Rattle.lists.specs.Checks.{Check, first}
-use Rattle.lists.proofs.Checks.{first-passed, first-stopped}
+use Rattle.lists.proofs.Checks.{or-false, first-passed, first-stopped}
 use Rattle.plate.specs.Refusal.{Numbered}
 use Rattle.record.specs.Frame.{left, lengthAt, bodyAt}
 use Rattle.record.specs.Faults.{frameChecks, Framed}
 use Rattle.record.proofs.Frames.{is-cut, is-barred, is-wrong, is-body-cut, is-framed, frame-passed, frame-passes}
+use Rattle.promises.specs.Orders.{numbers, isOneOf}
 use Rattle.promises.specs.Reader.{RunsOut, KindBarred, LengthWrong, Contradicts}
+use Rattle.promises.proofs.Orders.{first-number}
 use Rattle.promises.proofs.Lawful.{NotOfFrame}
 
 abbrev pub said : ℕ → ℕ → Numbered
@@ -26,6 +28,22 @@ said-number e = cc
 
 pub said-place : {a b : Numbered} → some a ≡ some b → a .place ≡ b .place
 said-place e = cc
+
+-- ---- the numbers of a list
+
+pub clash : {a : Bool} → a ≡ true → a ≡ false → ⊥
+clash p q = let z : _≡_ {A = Bool} true false = sym p ∙ q in let y : _≡_ {A = ℕ} 0 1 = cc in omega arith
+
+-- a list without a number of a frame's
+pub not-of-frame : (cs : List (Check Numbered)) (line : List ℕ) → numbers cs ≡ line → isOneOf 16 line || (isOneOf 19 line || isOneOf 20 line) ≡ false
+    → (r : Numbered) → first cs ≡ some r → NotOfFrame (r .number)
+not-of-frame cs line is none-of r e =
+    let a = or-false (isOneOf 16 line) (isOneOf 19 line || isOneOf 20 line) none-of in
+    let b = or-false (isOneOf 19 line) (isOneOf 20 line) (a .1) in
+    record { not-16 = λ n. never 16 (a .0) n; not-19 = λ n. never 19 (b .0) n; not-20 = λ n. never 20 (b .1) n }
+  where
+    never : (n : ℕ) → isOneOf n line ≡ false → r .number ≡ n → ⊥
+    never n out q = clash (ap (λ (m : ℕ). isOneOf m line) (sym q) ∙ subst (λ (l : List ℕ). isOneOf (r .number) l ≡ true) is (first-number cs r e)) out
 
 module _ (s : List ℕ) (at : ℕ) (allowed right : Bool) where
   abbrev frame : List (Check Numbered)

@@ -1,17 +1,15 @@
 -- Which way a file is broken, for any format by its laws: the first record at fault decides, and its number is that of the way in which it is broken; what a
 -- longer input changes follows from the record that it is. Assumes nothing.
-use mathlib.Core.Path.{_≡_, refl, sym, ap, subst, _∙_}
+use mathlib.Core.Path.{_≡_, sym, ap, subst, _∙_}
 use mathlib.Core.Logic.{_↔_}
 use mathlib.Core.Bool.{Bool}
 use mathlib.Core.List.{List, _++_}
-use mathlib.Core.Option.{some}
 use Prim.Native.Nat.{ℕ}
-use native.Mathlib.Omega.{arith}
-use Rattle.lists.specs.Checks.{first, Given}
+use Rattle.lists.specs.Checks.{first}
 use Rattle.lists.proofs.Checks.{first-exactly}
-use Rattle.plate.specs.Refusal.{Told, refused, Numbered}
+use Rattle.plate.specs.Refusal.{Told, refused}
 use Rattle.record.specs.Frame.{kindAt}
-use Rattle.promises.specs.Reader.{Reader, Reached, Stops, asks, allowedNext, rightNext, RunsOut, KindBarred, LengthWrong, Contradicts}
+use Rattle.promises.specs.Reader.{Reader, Reached, Stops, asks, allowedNext, rightNext, RunsOut, KindBarred}
 use Rattle.promises.specs.Faults.{Outlook, WhichWay}
 use Rattle.promises.proofs.Lawful.{Lawful}
 use Rattle.promises.proofs.Split.{said, sixteen, nineteen, twenty, twenty-one}
