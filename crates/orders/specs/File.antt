@@ -1,5 +1,5 @@
--- Document 02 e), the order file as it is read: 'the reader, after the list, gives 16 at the first record after which no such file is possible'.
--- What is asked of each record in its order, record after record, so that the first at fault decides. A layer takes 16 bytes, so that each
+-- Document 02 e), the order file as it is read: 'the reader, after the list, gives 16 at the first record after which no such file is possible', which f)
+-- splits. What is asked of each record in its order, record after record, so that the first at fault decides. A layer takes 16 bytes, so that each
 -- record has its place by the layers before it. The file doesn't tell where the first boundary stands. Assumes nothing.
 use Prim.Native.Nat.{ℕ, zero, suc, _+_, _*_}
 use mathlib.Core.Bool.{Bool, not, cond, _&&_}

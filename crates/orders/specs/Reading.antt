@@ -1,5 +1,5 @@
--- Document 02 e), the reader of order files: 1, 2, 14, 3 for the list, and then 16 by record. The whole file is judged, also behind the order asked
--- for. Assumes nothing.
+-- Document 02 e), the reader of order files: 1, 2, 14, 3 for the list, and then the file's faults by record. The whole file is judged, also
+-- behind the order asked for. Assumes nothing.
 use Prim.Native.Nat.{ℕ}
 use mathlib.Core.List.{List, _++_}
 use Rattle.plate.specs.Call.{Call}

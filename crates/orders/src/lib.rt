@@ -307,7 +307,7 @@ fn lift_by(s: Settings, step: u32, cure: &[u16], rise: usize, bits: u32) -> usiz
     i
 }
 
-// The lift of the next layer, behind its frame: the layer's thickness, or 16.
+// The lift of the next layer, behind its frame: the layer's thickness, or 21.
 fn check_lift(s: Settings, step: u32, cure: &[u16], file: &[u8], read: Stack) -> Layer
     requires { ⌜ Sound s × Standing step read ⌝ }
     ensures { λ r. ⌜ Looked r (liftChecks (s .height) (s .members) step (now (cure .entry)) (now (file .entry)) read) (thicknessAt (s .members) step (now (cure .entry)) (now (file .entry)) read) read step ⌝ }
@@ -458,7 +458,7 @@ fn order_of(s: Settings, file: &[u8], read: Stack, number: u32, found: Order) ->
     Ordered::Done(Order::Finish(read.layers as u32))
 }
 
-// The whole file, record by record: 16, or the order asked for.
+// The whole file, record by record: its first fault, or the order asked for.
 fn read_file(s: Settings, step: u32, cure: &[u16], file: &[u8], number: u32) -> Ordered
     requires { ⌜ Sound s × (step ≤ 8192) ⌝ }
     ensures { λ r. ⌜ toldOrder r ≡ decided (fileChecks (s .height) (s .members) step (now (cure .entry)) (now (file .entry))) (orderIn (s .members) step (now (cure .entry)) (now (file .entry)) number) ⌝ }
@@ -493,7 +493,7 @@ fn read_file(s: Settings, step: u32, cure: &[u16], file: &[u8], number: u32) -> 
     Ordered::Refused(refusal_at(Fault::CUT, 16 * read.layers))
 }
 
-// Document 02 e), the reader of order files: 1, 2, 14, 3 for the list, 16 by record. The whole file is judged, also behind the order asked for.
+// Document 02 e), the reader of order files: 1, 2, 14, 3 for the list, the file's faults by record. The whole file is judged, also behind the order asked for.
 pub fn read_order(
     height: u32,
     members: u32,

@@ -1,5 +1,5 @@
--- Document 02 c), the reader of table files: 'Refusals of the reader: 16 by record as in the job file, then 1, 2, 7 and 6 as they apply, at the
--- record; after the whole file 3 for the lent table'; and what the table then holds. Assumes nothing.
+-- Document 02 c), the reader of table files: 'Refusals of the reader: 16 by record as in the job file', which f) splits, 'then 1, 2, 7 and 6
+-- as they apply, at the record; after the whole file 3 for the lent table'; and what the table then holds. Assumes nothing.
 use Prim.Native.Nat.{ℕ}
 use mathlib.Core.List.{List, [], _∷_, _++_}
 use lib.ListN.{length, drop}

@@ -51,7 +51,7 @@ fn head_in(file: &[u8]) -> Head
     }
 }
 
-// The first record: 16, then 1, 2, 7.
+// The first record: its frame, then 1, 2, 7.
 fn check_opening(file: &[u8]) -> Made
     ensures { λ r. ⌜ Judges r (openingChecks (now (file .entry))) (headIn (now (file .entry)) .height) (headIn (now (file .entry)) .members) ⌝ }
 {
@@ -287,7 +287,7 @@ fn read_records(file: &[u8], s: Settings, table: &mut [u32]) -> Tabled
     Tabled::Done(head)
 }
 
-// Document 02 c), the reader of table files: 16 by record, then 1, 2, 7 and 6 as they apply, at the record; after the whole file 3.
+// Document 02 c), the reader of table files: the file's faults by record, with 1, 2, 7 and 6 as they apply; after the whole file 3.
 pub fn read_table(file: &[u8], table: &mut [u32]) -> Tabled
     ensures { λ r. ⌜ Does (receiving (now (file .entry)) (now (table .entry))) (toldTable r) (now (table .exit)) ⌝ }
 {

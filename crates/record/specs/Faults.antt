@@ -1,5 +1,6 @@
--- Document 01, 'In a record: fewer than 4 bytes left; kind not allowed here; wrong length for the kind; body past the input (all 16)', and the
--- two other ways in which a file is malformed: a name for each, and its number. Assumes nothing.
+-- Document 01, 'In a record: fewer than 4 bytes left; kind not allowed here; wrong length for the kind; body past the input', and the two other ways in
+-- which a file is broken: a name for each, and its number by document 02 f), '16 now means only that bytes run out; 19 a kind not known or, by the kinds
+-- before it alone, not allowed here; 20 a length wrong for the kind; 21 contents that disagree with the file'. Assumes nothing.
 use Prim.Native.Nat.{ℕ, _≤_}
 use mathlib.Core.Path.{_≡_}
 use mathlib.Core.Bool.{Bool, true, not}

@@ -16,7 +16,7 @@ use plate::refusal::Reason;
 use plate::refusal::refusal_at;
 
 // Why a file is refused, a reason for each of its checks: fewer than 4 bytes left, kind not allowed here, wrong length for the kind, body past
-// the input, a number that disagrees with the file, bytes after the end.
+// the input, contents that disagree with the file, bytes after the end. Document 02 f) gives them four numbers.
 pub struct Fault;
 
 impl Fault {

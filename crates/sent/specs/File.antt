@@ -1,5 +1,5 @@
--- Document 02 c), the table file as it is read: 'Refusals of the reader: 16 by record as in the job file, then 1, 2, 7 and 6 as they apply, at the
--- record'. What is asked of each record in its order, record after record, so that the first record at fault decides. All rows are as long, so
+-- Document 02 c), the table file as it is read: 'Refusals of the reader: 16 by record as in the job file', which f) splits, 'then 1, 2, 7 and 6 as
+-- they apply, at the record'. What is asked of each record in its order, record after record, so that the first record at fault decides. All rows are as long, so
 -- that row r has its place by its number. Assumes nothing.
 use Prim.Native.Nat.{ℕ, zero, suc, _+_, _*_}
 use mathlib.Core.Bool.{Bool, not, cond, _||_}
