@@ -11,11 +11,12 @@ use borrow.Author.Tests.{lt-ltb, ltb-true}
 use lib.Dec.{ltb}
 use lib.ListN.{length}
 use Rattle.lists.specs.Checks.{Check, first}
+use Rattle.lists.proofs.Checks.{first-passed, first-stopped}
 use Rattle.plate.specs.Call.{answerOf}
-use Rattle.plate.specs.Refusal.{refused, Numbered, toldBy}
+use Rattle.plate.specs.Refusal.{Told, done, refused, Numbered, toldBy, decided}
 use Rattle.plate.proofs.Decided.{refused-first, decided-stopped}
 use Rattle.table.specs.Table.{short}
-use Rattle.plate.specs.Head.{heldIn}
+use Rattle.plate.specs.Head.{Held, heldIn, cellsOf, clearedHead}
 use Rattle.record.specs.Bytes.{Bytes}
 use Rattle.record.specs.Frame.{lengthAt}
 use Rattle.record.specs.Faults.{tail, frameChecks, Framed}
@@ -24,7 +25,8 @@ use Rattle.job.specs.Record.{bodyChecks, kindChecks, recordKind, recordChecks, 
 use Rattle.job.specs.declared.Kind.{Kind}
 use Rattle.job.specs.declared.Kind.the-variants as kind
 use Rattle.job.specs.declared.State.{State}
-use Rattle.load.specs.Load.{jobOf, loading, loadAnswer}
+use Rattle.job.specs.File.{Job}
+use Rattle.load.specs.Load.{jobOf, loadOf, loading, loadAnswer}
 use Rattle.sent.specs.File.{headIn, cellsIn, fileChecks, tableFile}
 use Rattle.receive.specs.Receiving.{receiving, readAnswer}
 use Rattle.orders.specs.Reading.{readingOrder}
@@ -164,15 +166,45 @@ record-alone s st at =
 
 -- ---- the calls that read a file into a lent table
 
-job-call : (most : ℕ) (file lent : List ℕ) (number place : ℕ) → jobOf most file ≡ refused number place → loadAnswer lent (jobOf most file) ≡ refused number place
-unfolding loading
-job-call most file lent number place e = ap (loadAnswer lent) e
+-- the table's length is 3
+short-only : (held : Held) (which number place : ℕ) → (number ≡ 3 → ⊥) → first (short held which ∷ []) ≡ some (said number place) → ⊥
+unfolding short
+short-only held which number place other e = go (ltb (length (held .buffer)) (cellsOf (held .head))) e
+  where
+    go : (b : Bool) → cond b (some (said 3 which)) none ≡ some (said number place) → ⊥
+    go true q = other (sym (said-number q))
+    go false q = let z : _≡_ {A = ℕ} 0 1 = cc in omega arith
 
-table-call : (file lent : List ℕ) (number place : ℕ) → tableFile file ≡ refused number place → readAnswer file lent ≡ refused number place
+job-call : (most : ℕ) (file lent : List ℕ) (number place : ℕ) → (number ≡ 3 → ⊥)
+    → (loadAnswer lent (jobOf most file) ≡ refused number place) ↔ (jobOf most file ≡ refused number place)
+unfolding loading
+job-call most file lent number place other = (to (jobOf most file), λ e. ap (loadAnswer lent) e)
+  where
+    to : (told : Told Job) → loadAnswer lent told ≡ refused number place → told ≡ refused number place
+    to (done job) e =
+        let table = heldIn (clearedHead (job .asked .height) (job .asked .members)) lent in
+        absurd (short-only table 1 number place other (refused-first (short table 1 ∷ []) (loadOf job) number place e))
+    to (refused n p) e = let a : n ≡ number = cc in let b : p ≡ place = cc in λ i. refused (a i) (b i)
+
+table-call : (file lent : List ℕ) (number place : ℕ) → (number ≡ 3 → ⊥) → (readAnswer file lent ≡ refused number place) ↔ (tableFile file ≡ refused number place)
 unfolding tableFile receiving
-table-call file lent number place e =
-    decided-stopped (fileChecks file) (short (heldIn (headIn file) lent) 1 ∷ []) (headIn file) (said number place)
-    (refused-first (fileChecks file) (heldIn (headIn file) (cellsIn file)) number place e)
+table-call file lent number place other = (λ e. to (first (fileChecks file)) refl e, from)
+  where
+    table : List (Check Numbered)
+    table = short (heldIn (headIn file) lent) 1 ∷ []
+
+    held : Held
+    held = heldIn (headIn file) (cellsIn file)
+
+    to : (o : Option Numbered) → first (fileChecks file) ≡ o → decided (fileChecks file ++ table) (headIn file) ≡ refused number place → decided (fileChecks file) held ≡ refused number place
+    to none f e =
+        absurd (short-only (heldIn (headIn file) lent) 1 number place other
+        (sym (first-passed (fileChecks file) table f) ∙ refused-first (fileChecks file ++ table) (headIn file) number place e))
+    to (some r) f e =
+        ap (λ (o : Option Numbered). toldBy o held) (f ∙ sym (first-stopped (fileChecks file) table r f) ∙ refused-first (fileChecks file ++ table) (headIn file) number place e)
+
+    from : decided (fileChecks file) held ≡ refused number place → decided (fileChecks file ++ table) (headIn file) ≡ refused number place
+    from e = decided-stopped (fileChecks file) table (headIn file) (said number place) (refused-first (fileChecks file) held number place e)
 
 -- DOCUMENT 02 F)
 pub faults : Faults

@@ -84,6 +84,7 @@ pub record Faults : Type 0 where
   pub order : (N T step : ℕ) (cures : List ℕ) → Lent N T step cures → (number : ℕ) (file : List ℕ)
       → WhichWay (orderReader N T step cures) orderAllows (λ (f : List ℕ). answerOf (readingOrder N T step cures f number)) file
   pub record-alone : (s : List ℕ) (st : State) (at : ℕ) → RecordAlone s st at
-  -- the calls that read a file into a lent table refuse with what the file is refused
-  pub job-call : (most : ℕ) (file lent : List ℕ) (number place : ℕ) → jobOf most file ≡ refused number place → loadAnswer lent (jobOf most file) ≡ refused number place
-  pub table-call : (file lent : List ℕ) (number place : ℕ) → tableFile file ≡ refused number place → readAnswer file lent ≡ refused number place
+  -- the calls that read a file into a lent table: but for 3, which is the table's, they refuse what the file is refused with, and nothing else
+  pub job-call : (most : ℕ) (file lent : List ℕ) (number place : ℕ) → (number ≡ 3 → ⊥)
+      → (loadAnswer lent (jobOf most file) ≡ refused number place) ↔ (jobOf most file ≡ refused number place)
+  pub table-call : (file lent : List ℕ) (number place : ℕ) → (number ≡ 3 → ⊥) → (readAnswer file lent ≡ refused number place) ↔ (tableFile file ≡ refused number place)
