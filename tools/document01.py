@@ -12,6 +12,7 @@ A lent buffer is a list as long as what is lent. A call changes it in place, and
 import dataclasses
 import functools
 import itertools
+import re
 import struct
 
 NO_BOUND = 2 ** 32 - 1
@@ -468,12 +469,19 @@ def motor_height(step, z):
 # ---- Job file: one record
 
 
-FAULTS = {"cut": 16, "kind": 16, "length": 16, "body": 16, "unequal": 16, "tail": 16, "start": 16, "missing": 16}
-FAULTS |= {"height": 16, "over": 16, "time": 16, "low": 16}
-"""The faults of a file and their numbers: fewer bytes left than a record's head has; a kind not allowed here; a length wrong for the kind; a
-body past the input; an end count unequal to the columns, to the rows or to the layers; bytes after the end record; a row whose start is not the
-next one; an end before the last row; a lift to no height that a next layer has; a lift after the last layer that there can be; a cure of another
-time than the layer's; a finish below the plate's height."""
+FAULTS = {"cut": 16, "kind": 19, "length": 20, "body": 16, "unequal": 21, "tail": 21, "start": 21, "missing": 21}
+FAULTS |= {"height": 21, "over": 21, "time": 21, "low": 21}
+"""The faults of a file and their numbers, split by request f) of document 02. 16, bytes run out: fewer of them left than a record's head has; a
+body past the input. 19: a kind not known or, by the kinds before it alone, not allowed here. 20: a length wrong for the kind. 21, contents that
+disagree with the file: an end count unequal to the columns, to the rows or to the layers; bytes after the end record; a row whose start is not
+the next one; an end before the last row; a lift to no height that a next layer has; a lift after the last layer that there can be; a cure of
+another time than the layer's; a finish below the plate's height."""
+
+
+def unsplit(answer):
+    """An answer, its number first, as it was before request f): every fault of a file is 16."""
+    number, *rest = answer
+    return (16 if number in FAULTS.values() else number, *rest)
 
 
 @dataclasses.dataclass(frozen=True)
@@ -1109,13 +1117,38 @@ def files_by_definition(height, members, step, cure):
     return found, beginnings
 
 
+def order_kinds(data):
+    """The kinds of a file, a letter each, as far as its lengths say; a dot for one that is no order."""
+    found, at = "", 0
+    while len(data) - at >= 4:
+        length, kind = struct.unpack_from("<HH", data, at)
+        found, at = found + {48: "l", 49: "c", 50: "f"}.get(kind, "."), at + 4 + length
+    return found
+
+
+def broken_by_definition(data, at, is_whole):
+    """Which way a file is broken at the record at this place, of which the kinds are those of lifts and cures in turn, at least one of each, and
+    then one finish."""
+    if is_whole:
+        return 21
+    if len(data) - at < 4:
+        return 16
+    length, kind = struct.unpack_from("<HH", data, at)
+    if not re.fullmatch("(lc)*l?|(lc)+f", order_kinds(data[:at + 4])):
+        return 19
+    if length != (2 if kind == 50 else 4):
+        return 20
+    return 16 if len(data) - at < 4 + length else 21
+
+
 def orders_by_definition(data, height, members, step, cure):
     """The same for a plate that has few sequences: a file is good if it is that of one of them; and no such file is possible after the record that
     stands behind the longest beginning of any of them."""
     found, beginnings = files_by_definition(height, members, step, cure)
     if data in found:
         return found[data]
-    raise Refused(16, max(at for at in range(len(data) + 1) if data[:at] in beginnings))
+    place = max(at for at in range(len(data) + 1) if data[:at] in beginnings)
+    raise Refused(broken_by_definition(data, place, data[:place] in found), place)
 
 
 def answered(call, *arguments):
@@ -1131,7 +1164,7 @@ def read_order(height, members, step, cure, data, number):
     for check in settings_checks(height, members, step, cure).values():
         check()
     plate, stated = plate_of(height, members), tuple(cure[:plate_of(height, members).tmax])
-    if is_small(plate) and set(FAULTS.values()) == {16}:
+    if is_small(plate):
         by_definition = answered(orders_by_definition, data, height, members, step, stated)
         assert by_definition == answered(orders_by_records, data, Printer(plate, step, stated)), (by_definition, data)
     orders = orders_by_records(data, Printer(plate, step, stated))
