@@ -1,4 +1,4 @@
-// A whole file read into a part of a buffer that holds a pattern before.
+// Files read into a part of a buffer that holds a pattern before, or into a table that is long enough for each of the list.
 ghost use mathlib.Core.Bool.{true};
 ghost use mathlib.Core.Path.{_≡_};
 ghost use Prim.Native.Nat.{ℕ, _+_, _<_};
@@ -98,5 +98,19 @@ pub(crate) fn file(numbers: [u64; 8], input: &[u8]) {
             show_load(load);
             show_table(&table);
         }
+    }
+}
+
+// By the most entries that a table or a sheet may have: what goes with the table, or the refusal.
+pub(crate) fn whole(numbers: [u64; 8], input: &[u8]) {
+    let mut table = [0u32; 4096];
+    let answer = read_job(input, numbers[0] as usize, &mut table);
+    show::text(b":");
+    match answer {
+        Loaded::Refused(refusal) => {
+            let reason = refusal.reason;
+            show::refused(reason, refusal.place);
+        }
+        Loaded::Done(load) => show_load(load),
     }
 }

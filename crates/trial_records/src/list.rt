@@ -1,5 +1,5 @@
 // The list of cases, a line each: a label, a colon, numbers, a semicolon, and the bytes of the input. A label that begins with `f` is that of
-// a file, any other that of a record. The numbers are decimal, with a comma between them; the bytes are hexadecimal. Words among the numbers
+// a file, with `w` that of a file for a table which is long enough, any other that of a record. The numbers are decimal, with a comma between them; the bytes are hexadecimal. Words among the numbers
 // and spaces are for the reader.
 use crate::files;
 use crate::records;
@@ -56,21 +56,30 @@ fn numbers_in(words: &[u8]) -> Numbers {
     numbers
 }
 
+// By the first letter of a label.
+fn call(letter: u8, given: [u64; 8], input: &[u8]) {
+    if letter == b'f' {
+        files::file(given, input);
+        return;
+    }
+    if letter == b'w' {
+        files::whole(given, input);
+        return;
+    }
+    records::records(given, input);
+}
+
 fn case(line: &[u8]) {
     let first = find(line, 0, b':');
     let second = find(line, first, b';');
     let label = part(line, 0, first);
     let numbers = numbers_in(part(line, first, second));
     let given = numbers.held;
-    let mut held = [0u8; 160];
+    let mut held = [0u8; 192];
     let size = lay(&mut held, part(line, second, line.len()));
     let input = part(&held, 0, size);
     show::text(label);
-    if letter(label, 0) == b'f' {
-        files::file(given, input);
-    } else {
-        records::records(given, input);
-    }
+    call(letter(label, 0), given, input);
     show::text(b"\n");
 }
 

@@ -5,7 +5,7 @@ mod records;
 mod show;
 
 fn main() {
-    let mut list = io::large_buffer();
+    let mut list = [0u8; 131072];
     let size = io::read_full(0, &mut list);
     list::run(&list[..size]);
 }
