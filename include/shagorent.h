@@ -30,7 +30,7 @@ extern "C" {
  * minor version has more functions, or a rule that moved, as its changelog tells. `shagorent_version` answers the library's own, in the form of
  * SHAGORENT_VERSION: ask once that the two agree. */
 #define SHAGORENT_VERSION_MAJOR 4u
-#define SHAGORENT_VERSION_MINOR 5u
+#define SHAGORENT_VERSION_MINOR 6u
 #define SHAGORENT_VERSION_PATCH 0u
 #define SHAGORENT_VERSION (SHAGORENT_VERSION_MAJOR * 10000u + SHAGORENT_VERSION_MINOR * 100u + SHAGORENT_VERSION_PATCH)
 
@@ -53,7 +53,9 @@ extern "C" {
 #define SHAGORENT_NO_BOUND UINT32_MAX     /* a bound that excludes nothing */
 #define SHAGORENT_NONE UINT64_MAX         /* in an error sheet or a list: there is no such sequence */
 
-/* Refusals: the number, and what its place is. */
+/* Refusals: the number, and what its place is. 16, 19, 20 and 21 are faults of a job, table or order file; their place is the first byte of the
+ * record at fault, and for bytes after the end record the first of them. 16 asks for the rest of the file: it is not given where the file goes on
+ * well. The other three stay, whatever bytes follow; 19 and 20 may be a file of a newer kind, 21 is a damaged one. */
 #define SHAGORENT_DONE 0u
 #define SHAGORENT_HEIGHT 1u          /* height outside 1 to 512; 0 */
 #define SHAGORENT_NO_THICKNESS 2u    /* no thickness allowed; 0 */
@@ -70,9 +72,12 @@ extern "C" {
 #define SHAGORENT_NOT_ADMISSIBLE 13u /* a sequence, for orders without a bound, or a layer that is not admissible; the lowest index at fault */
 #define SHAGORENT_STEP 14u           /* step outside 1 to 8,192, of a motor height or of orders; 0 */
 #define SHAGORENT_MOTOR_BOUNDARY 15u /* boundary outside -31 to 543; 0 */
-#define SHAGORENT_MALFORMED 16u      /* a malformed job, table or order file; the first byte of the record at fault, or of what stands after the end */
+#define SHAGORENT_RAN_OUT 16u        /* the file's bytes run out: fewer than 4 left for a record's head, or a body past the input */
 #define SHAGORENT_TOO_LARGE 17u      /* a job too large for the caller; the first byte of its settings record */
 #define SHAGORENT_NO_CURE 18u        /* a layer of a thickness whose cure time is 0; the first such layer, from 1 */
+#define SHAGORENT_WRONG_KIND 19u     /* a record's kind that is not known or, by the kinds before it alone, not allowed here */
+#define SHAGORENT_WRONG_LENGTH 20u   /* a record's length that is wrong for its kind */
+#define SHAGORENT_DISAGREES 21u      /* contents that disagree with the file: end counts, rows, bytes after the end, floats no sequence gives */
 
 /* Kinds of orders, which are those of their records. */
 #define SHAGORENT_LIFT 48u   /* lift to a height */
@@ -202,9 +207,10 @@ shagorent_height_reply shagorent_motor_height(uint32_t step, int32_t boundary);
 /* ---- Job files. */
 
 /* Reads a whole job file into a table, whose cells it replaces; SHAGORENT_MOST_CELLS are enough for any. Answers what goes with the table, and
- * the bound that the settings ask for. Refusals of the file, in its own order: 16, 1, 2, 7, 4, 5, with 17 straight after 1 and 2 where a
- * table or a sheet of its settings has more than `most` entries; then 3, at place 1. Whichever refusal of the file it is, its place is the
- * first byte of the record at fault, and for bytes after the end record the first of them.
+ * the bound that the settings ask for. Refusals of the file: the first record at fault decides, and in it 16 for its head, 19, 20, 16 for its body,
+ * then by its kind 1, 2 and 17, where a table or a sheet of the settings has more than `most` entries; 7, 4, 5; 21 for an end count that is not the
+ * number of columns. Bytes after the end record are 21. Then 3, at place 1. Whichever refusal of the file it is, its place is the first byte of the
+ * record at fault, and for bytes after the end record the first of them.
  *
  * A job file is records: the length of the body in two bytes, a kind in two, the body; every number has its low byte first. One of kind 1 comes
  * first: the height (2 bytes), the set (4), the bound (4). Then columns, kind 2: the boundaries (2 each). Then one of kind 3: the number
@@ -240,9 +246,10 @@ shagorent_reply shagorent_write_table(const uint32_t *table, size_t table_length
 
 /* Reads a whole table file into a table, whose cells it replaces; SHAGORENT_TABLE_CELLS_MAX are enough for any. Cells past the table's size stay as
  * they were. Answers what goes with the table. A file in bounds whose cells no columns give is read too, and can be joined and planned.
- * Refusals of the file, in its own order: 16 by record, 1, 2, 7 at the first record, 6 at a row; then 3, at place 1. Whichever refusal of the
- * file it is, its place is the first byte of the record at fault, and for bytes after the end record the first of them. The file is judged whole
- * before the table is written. */
+ * Refusals of the file: the first record at fault decides, and in it 16 for its head, 19, 20, 16 for its body, then 1, 2, 7 of the first record; 21
+ * for a row whose start is not the next one, and then 6; 21 for an end with rows missing or another number of them. An end straight after the first
+ * record is 19. Bytes after the end record are 21. Then 3, at place 1. Whichever refusal of the file it is, its place is the first byte of the record
+ * at fault, and for bytes after the end record the first of them. The file is judged whole before the table is written. */
 shagorent_table_reply shagorent_read_table(const uint8_t *input, size_t input_length, uint32_t *table, size_t table_length);
 
 /* ---- Order files, from the plan to the printer: for each layer of a sequence lift to its upper height above the FIRST boundary z0, then cure
@@ -267,10 +274,11 @@ shagorent_reply shagorent_write_orders(uint32_t height, uint32_t set, uint32_t s
  * after n layers. A file is read exactly if it is what `shagorent_write_orders` writes of some admissible sequence under these settings, step and
  * cure list, byte for byte. The whole file is judged at every call, also behind the order asked for; so the time to read all orders one by one
  * grows with the square of the layers, of which there are at most SHAGORENT_MOST_COUNTS.
- * Refusals 1, 2, 14, 3 (at 1: the cure list is shorter than tmax), 16. The place of 16 is the first byte of the first record after which no such
- * file is possible: one that is cut off, of a kind or a length that is not due, a lift that no layer on top of those before it can have, or by a
- * thickness whose cure entry is 0, a cure of another time than the thickness has, a finish below the plate's height or with another number of
- * layers; for bytes after the finish it is the first of them. Where every cure entry of T is 0 there is no such file, and any input is refused at 0. */
+ * Refusals 1, 2, 14, 3 (at 1: the cure list is shorter than tmax), and then those of the file. Their place is the first byte of the first record
+ * after which no such file is possible: 16, its head is cut off; 19, its kind is not due, which a finish first of all is not; 20, its length is not
+ * its kind's; 16, its body is cut off; 21, a lift that no layer on top of those before it can have, or by a thickness whose cure entry is 0, or after
+ * the last layer that there can be; a cure of another time than the thickness has; a finish below the plate's height or with another number of
+ * layers. Bytes after the finish are 21 at the first of them. Where every cure entry of T is 0 there is no such file, and any input is refused at 0. */
 shagorent_order_reply shagorent_read_order(uint32_t height, uint32_t set, uint32_t step, const uint16_t *cure, size_t cure_length,
                                            const uint8_t *file, size_t file_length, uint32_t number);
 
