@@ -231,11 +231,25 @@ fn stands(file: &[u8], place: usize, bytes: &[u8]) -> bool {
     bytes.iter().enumerate().all(|(i, byte)| file.get(place + i) == Some(byte))
 }
 
+/// Which way a file is broken at the record that begins here, of which only these kinds may come, each of one length: document 02's f).
+fn broken(file: &[u8], place: usize, may_come: &[(u64, usize)]) -> u32 {
+    let bytes = file.len() - place;
+    if bytes < 4 {
+        return 16;
+    }
+    let Some(&(_, due)) = may_come.iter().find(|&&(kind, _)| kind == number_at(file, place + 2, 2)) else { return 19 };
+    match number_at(file, place, 2) as usize {
+        length if length != due => 20,
+        length if length > bytes - 4 => 16,
+        _ => 21,
+    }
+}
+
 /// The cells of a table file, or a refusal and its place. Where rows and end must stand follows from height and set; so the record at
 /// fault is the first of these places at which something else stands, or where the file is too short.
 pub fn cells_of_file(file: &[u8]) -> Result<Vec<u32>, (u32, usize)> {
     if !stands(file, 0, &[10, 0, 16, 0]) || file.len() < 14 {
-        return Err((16, 0));
+        return Err((broken(file, 0, &[(16, 10)]), 0));
     }
     let (height, columns) = (number_at(file, 4, 2), number_at(file, 10, 4));
     let is_member = |thickness: usize| file[6 + (thickness - 1) / 8] & (1 << ((thickness - 1) % 8)) != 0;
@@ -250,13 +264,15 @@ pub fn cells_of_file(file: &[u8]) -> Result<Vec<u32>, (u32, usize)> {
     }
     let rows = height as usize + 2 * tmax - 2;
     let place_of = |row: usize| 14 + row * (6 + 4 * tmax);
+    let a_row = (17, 2 + 4 * tmax);
     let mut cells = Vec::new();
     for row in 0..rows {
         let place = place_of(row);
         let start = (65_536 + row + 1 - tmax) % 65_536;
         let opening = [(2 + 4 * tmax) as u8, 0, 17, 0, (start % 256) as u8, (start / 256) as u8];
         if !stands(file, place, &opening) || file.len() < place_of(row + 1) {
-            return Err((16, place));
+            let may_come = if row == 0 { vec![a_row] } else { vec![a_row, (18, 2)] };
+            return Err((broken(file, place, &may_come), place));
         }
         for thickness in 1..=tmax {
             let cell = number_at(file, place + 2 + 4 * thickness, 4);
@@ -269,10 +285,10 @@ pub fn cells_of_file(file: &[u8]) -> Result<Vec<u32>, (u32, usize)> {
     }
     let end = place_of(rows);
     if !stands(file, end, &[2, 0, 18, 0, (rows % 256) as u8, (rows / 256) as u8]) {
-        return Err((16, end));
+        return Err((broken(file, end, &[a_row, (18, 2)]), end));
     }
     if file.len() > end + 6 {
-        return Err((16, end + 6));
+        return Err((21, end + 6));
     }
     Ok(cells)
 }
@@ -306,8 +322,9 @@ impl Plate {
     }
 }
 
-/// Of all files that there are, none where the input is one of them, else the furthest end of a record up to which one of them agrees with it.
-pub fn order_fault(files: &[Vec<u8>], input: &[u8]) -> Option<usize> {
+/// Of all files that there are, none where the input is one of them, else the furthest end of a record up to which one of them agrees with it,
+/// behind which way it is broken there.
+pub fn order_fault(files: &[Vec<u8>], input: &[u8]) -> Option<(u32, usize)> {
     if files.iter().any(|file| file == input) {
         return None;
     }
@@ -315,5 +332,12 @@ pub fn order_fault(files: &[Vec<u8>], input: &[u8]) -> Option<usize> {
         let ends = (0..file.len()).step_by(8).chain([file.len()]);
         ends.filter(|&end| input.get(..end) == Some(&file[..end])).max().unwrap_or(0)
     };
-    Some(files.iter().map(agreeing).max().unwrap_or(0))
+    let place = files.iter().map(agreeing).max().unwrap_or(0);
+    let may_come: &[(u64, usize)] = match place {
+        place if files.iter().any(|file| file.len() == place && file == &input[..place]) => return Some((21, place)),
+        0 => &[(48, 4)],
+        place if place % 16 == 8 => &[(49, 4)],
+        _ => &[(48, 4), (50, 2)],
+    };
+    Some((broken(input, place, may_come), place))
 }

@@ -574,16 +574,13 @@ fn read_records(input: &[u8], most: usize) -> Answer<Job> {
     let mut job: Option<Job> = None;
     let mut at = 0;
     loop {
-        let record = match record_at(input, at, job.is_some()) {
-            Some(record) => record,
-            None => return refuse(16, at as u64),
-        };
+        let record = record_at(&input[at..], job.is_some()).or_else(|number| refuse(number, at as u64))?;
         let next = at + 4 + record.body.len();
         let at_record = |refusal: Refusal| Refusal { place: at as u64, ..refusal };
         match (record.kind, &mut job) {
             (1, none) => *none = Some(settings(record.body, most).map_err(at_record)?),
             (2, Some(job)) => job.columns.push(next_column(job, record.body).map_err(at_record)?),
-            (3, Some(job)) if number(record.body) != job.columns.len() as u64 => return refuse(16, at as u64),
+            (3, Some(job)) if number(record.body) != job.columns.len() as u64 => return refuse(21, at as u64),
             (3, _) => {
                 check_nothing_left(input, next)?;
                 return Ok(job.expect("settings come first"));
@@ -594,26 +591,29 @@ fn read_records(input: &[u8], most: usize) -> Answer<Job> {
     }
 }
 
-/// The record at the place, or none where it is malformed (16) by its head, kind or length.
-fn record_at(input: &[u8], at: usize, settled: bool) -> Option<Record<'_>> {
-    let left = &input[at..];
+/// The record that the bytes begin with, or by document 02's f) the number of what is wrong with its frame.
+fn record_at(left: &[u8], settled: bool) -> Result<Record<'_>, u32> {
+    framed(left, |kind, length| match kind {
+        1 if !settled => Some(length == 10),
+        2 if settled => Some(length.is_multiple_of(2)),
+        3 if settled => Some(length == 4),
+        32768.. => Some(true),
+        _ => None,
+    })
+}
+
+/// 16 for a head that is cut off, 19 for a kind that may not come here, 20 for its length, 16 for a body that is cut off. What may come is told
+/// by kind and length: whether the length is right, and nothing of a kind that may not.
+fn framed(left: &[u8], may_come: impl Fn(u16, u64) -> Option<bool>) -> Result<Record<'_>, u32> {
     if left.len() < 4 {
-        return None;
+        return Err(16);
     }
-    let length = number(&left[..2]) as usize;
-    let kind = number(&left[2..4]) as u16;
-    let (allowed_here, right_length) = match kind {
-        1 => (!settled, length == 10),
-        2 => (settled, length.is_multiple_of(2)),
-        3 => (settled, length == 4),
-        32768.. => (true, true),
-        _ => (false, false),
-    };
-    if !allowed_here || !right_length || left.len() - 4 < length {
-        return None;
+    let (length, kind) = (number(&left[..2]), number(&left[2..4]) as u16);
+    if !may_come(kind, length).ok_or(19_u32)? {
+        return Err(20);
     }
-    let body = &left[4..4 + length];
-    Some(Record { kind, body })
+    let body = left[4..].get(..length as usize).ok_or(16_u32)?;
+    Ok(Record { kind, body })
 }
 
 /// Little-endian.
@@ -639,9 +639,10 @@ fn next_column(job: &Job, body: &[u8]) -> Answer<Vec<u16>> {
     Ok(column)
 }
 
+/// 21, whatever the bytes after the end begin with, and however few they are.
 fn check_nothing_left(input: &[u8], at: usize) -> Answer<()> {
     if at < input.len() {
-        return refuse(16, at as u64);
+        return refuse(21, at as u64);
     }
     Ok(())
 }
@@ -740,16 +741,16 @@ pub enum Fault {
 }
 
 impl Fault {
-    /// Whatever is wrong with the file itself is 16, until document 02's f) tells its kinds apart.
+    /// By document 02's f).
     pub fn number(self) -> u32 {
         match self {
             Fault::CutHead => 16,
-            Fault::Kind => 16,
-            Fault::Length => 16,
+            Fault::Kind => 19,
+            Fault::Length => 20,
             Fault::CutBody => 16,
-            Fault::Start => 16,
-            Fault::Rows => 16,
-            Fault::After => 16,
+            Fault::Start => 21,
+            Fault::Rows => 21,
+            Fault::After => 21,
             Fault::Refused(number) => number,
         }
     }
@@ -1033,7 +1034,7 @@ impl<'a> Tried<'a> {
         }
     }
 
-    /// All orders of a file; 16 at the first record that comes next in no sequence.
+    /// All orders of a file, or what is wrong at the first record that comes next in no sequence.
     fn read(&self, file: &[u8]) -> Answer<Vec<Order>> {
         let (mut orders, mut begun, mut at) = (Vec::new(), self.begin(), 0);
         while !matches!(orders.last(), Some(Order::Finish(_))) {
@@ -1047,7 +1048,7 @@ impl<'a> Tried<'a> {
                     }
                 });
             }
-            let Some((order, size)) = found else { return refuse(16, at as u64) };
+            let Some((order, size)) = found else { return refuse(order_broken(&file[at..], orders.len()), at as u64) };
             at += size;
             orders.push(order);
             begun = next;
@@ -1055,6 +1056,18 @@ impl<'a> Tried<'a> {
         check_nothing_left(file, at)?;
         Ok(orders)
     }
+}
+
+/// Which way a record is broken that comes next in no sequence after so many orders: lifts and cures come in turn, and a finish in a lift's place
+/// but for the first. A record whose frame is well disagrees by its contents.
+pub fn order_broken(left: &[u8], orders: usize) -> u32 {
+    let framed = framed(left, |kind, length| match kind {
+        48 if orders % 2 == 0 => Some(length == 4),
+        49 if orders % 2 == 1 => Some(length == 4),
+        50 if orders % 2 == 0 && orders > 0 => Some(length == 2),
+        _ => None,
+    });
+    framed.map_or_else(|number| number, |_| 21)
 }
 
 pub fn read_order(printing: Printing, file: &[u8], number: u32) -> Answer<Order> {

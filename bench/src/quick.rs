@@ -590,13 +590,26 @@ fn cell(four: &[u8]) -> u32 {
     u32::from_le_bytes([four[0], four[1], four[2], four[3]])
 }
 
-/// Judged in one pass, filled in a second: what is not the one row or end that can stand at its place is 16 there.
+/// Which way a table file is broken at a record that is not the one which can stand at its place, where these kinds may come, each of one length.
+#[cold]
+fn broken(file: &[u8], at: usize, may_come: &[[usize; 2]]) -> u32 {
+    let Some((head, body)) = file[at..].split_at_checked(4) else { return 16 };
+    let [length, kind] = [[head[0], head[1]], [head[2], head[3]]].map(|two| usize::from(u16::from_le_bytes(two)));
+    match may_come.iter().find(|due| due[0] == kind) {
+        None => 19,
+        Some(due) if due[1] != length => 20,
+        Some(_) if body.len() < length => 16,
+        Some(_) => 21,
+    }
+}
+
+/// Judged in one pass, filled in a second: what is not the one row or end that can stand at its place is refused there.
 pub fn read_table(file: &[u8], table: &mut [u32]) -> Answer<Head> {
     let Some((opening, rest)) = file.split_at_checked(OPENING) else {
-        return refuse(16, 0);
+        return refuse(broken(file, 0, &[[16, 10]]), 0);
     };
     if opening[..4] != [10, 0, 16, 0] {
-        return refuse(16, 0);
+        return refuse(broken(file, 0, &[[16, 10]]), 0);
     }
     let height = u16::from_le_bytes([opening[4], opening[5]]);
     let head = Head { height: u32::from(height), set: cell(&opening[6..10]), columns: cell(&opening[10..]) };
@@ -607,25 +620,30 @@ pub fn read_table(file: &[u8], table: &mut [u32]) -> Answer<Head> {
     let (width, rows) = (plate.tmax as usize, plate.rows() as usize);
     let stride = ROW_HEAD + 4 * width;
     let limits = &limits(plate, head.columns)[..width];
+    let due = [[17, stride - 4], [18, 2]];
+    let broken_at = |row: usize| {
+        let at = OPENING + row * stride;
+        refuse(broken(file, at, if row == 0 { &due[..1] } else { &due }), at)
+    };
     let records = rest.chunks_exact(stride).take(rows);
     for (row, record) in records.clone().enumerate() {
         let (head, body) = record.split_at(ROW_HEAD);
         if head != row_head(width, row) {
-            return refuse(16, OPENING + row * stride);
+            return broken_at(row);
         }
         if body.chunks_exact(4).zip(limits).fold(false, |bad, (four, &limit)| bad | (cell(four) > limit)) {
             return refuse(6, OPENING + row * stride);
         }
     }
     if records.len() < rows {
-        return refuse(16, OPENING + records.len() * stride);
+        return broken_at(records.len());
     }
     let after = &rest[rows * stride..];
     if !after.starts_with(&end(rows)) {
-        return refuse(16, OPENING + rows * stride);
+        return broken_at(rows);
     }
     if after.len() > END {
-        return refuse(16, OPENING + rows * stride + END);
+        return refuse(21, OPENING + rows * stride + END);
     }
     if table.len() < plate.cells() {
         return refuse(3, 1);
@@ -739,8 +757,8 @@ pub enum Fault {
 }
 
 impl Fault {
-    /// As document 02's f) will number them; until then each is 16.
-    pub fn split(self) -> u32 {
+    /// By document 02's f).
+    pub fn number(self) -> u32 {
         match self {
             Fault::CutHead | Fault::CutBody => 16,
             Fault::Kind => 19,
@@ -834,7 +852,7 @@ pub fn judge(plate: Plate, printing: Printing, file: &[u8]) -> Result<usize, (Fa
 
 pub fn read_order(printing: Printing, file: &[u8], number: u32) -> Answer<Order> {
     let plate = printer(printing)?;
-    let layers = judge(plate, printing, file).or_else(|(_, at)| refuse(16, at))?;
+    let layers = judge(plate, printing, file).or_else(|(fault, at)| refuse(fault.number(), at))?;
     let number = number as usize;
     if number >= 2 * layers {
         return Ok(Order::Finish(layers as u32));

@@ -384,7 +384,7 @@ fn compare_orders(case: u64, random: &mut Random, printing: Printing, files: &[V
     let fault = brute::order_fault(files, file);
     let number = make::order_number(random, file);
     let expected = match fault {
-        Some(place) => Err(Refusal { number: 16, place: place as u64 }),
+        Some((number, place)) => Err(Refusal { number, place: place as u64 }),
         None => {
             let orders = orders_of_file(file);
             Ok(orders[orders.len().min(number as usize + 1) - 1])

@@ -252,10 +252,36 @@ fn worked_file() {
     assert_eq!(table[24..], [9, 9]);
     assert_eq!(read_job(file, 35, &mut table), refused(17, 0));
     assert_eq!(read_job(file, 36, &mut table[..23]), refused(3, 1));
-    assert_eq!(read_job(&FILE, 36, &mut table), refused(16, 38));
+    assert_eq!(read_job(&FILE, 36, &mut table), refused(21, 38));
     assert_eq!(read_job(&file[..30], 36, &mut table), refused(16, 30));
     assert_eq!(read_job(&file[..29], 36, &mut table), refused(16, 22));
     assert_eq!(read_job(&[], 36, &mut table), refused(16, 0));
+}
+
+/// The cases of document 02 f)'s issue: the worked file cut off, with one byte changed, and with bytes after it.
+#[test]
+fn worked_file_broken() {
+    let file = &FILE[..38];
+    let read = |file: &[u8]| read_job(file, 36, &mut [9; 24]).map(|loaded| loaded.head.columns);
+    let changed = |place: usize, byte: u8| {
+        let mut file = file.to_vec();
+        file[place] = byte;
+        read(&file)
+    };
+    for (length, place) in [(37, 30), (33, 30), (31, 30), (30, 30), (3, 0), (0, 0)] {
+        assert_eq!(read(&file[..length]), refused(16, place), "{length}");
+    }
+    assert_eq!([changed(2, 2), changed(2, 6)], [refused(19, 0); 2]);
+    assert_eq!([changed(16, 1), changed(16, 9)], [refused(19, 14); 2]);
+    assert_eq!((changed(0, 0x0B), changed(30, 5)), (refused(20, 0), refused(20, 30)));
+    assert_eq!((changed(14, 3), changed(14, 0xFE)), (refused(20, 14), refused(16, 14)));
+    assert_eq!((changed(34, 3), changed(34, 2)), (refused(21, 30), Ok(2)));
+    for after in [&[0][..], &[0, 0], &[0, 0, 6], &[0, 0, 0, 0x80], &[0, 0, 6, 0], &[4, 0, 6, 0, 0], &file[30..]] {
+        assert_eq!(read(&[file, after].concat()), refused(21, 38), "{after:?}");
+    }
+    assert_eq!(read(&[12, 0, 1, 0, 4, 0, 6, 0]), refused(20, 0));
+    assert_eq!(read(&[10, 0, 1, 0, 4, 0, 6, 0]), refused(16, 0));
+    assert_eq!(read(&[10, 0, 6, 0, 4, 0, 6, 0]), refused(19, 0));
 }
 
 #[test]
@@ -350,16 +376,19 @@ fn worked_table_damaged() {
     assert_eq!((changed(28, &[2]), changed(28, &[3])), (Ok(2), refused(6, 14)));
     assert_eq!((changed(24, &[2]), changed(24, &[3])), (Ok(2), refused(6, 14)));
     assert_eq!((changed(20, &[0]), changed(20, &[1])), (Ok(2), refused(6, 14)));
-    assert_eq!(changed(18, &[0xFD]), refused(16, 14));
-    assert_eq!(changed(158, &[2, 0, 18, 0, 7]), refused(16, 158));
-    assert_eq!(changed(14, &[0, 0, 0, 0x80]), refused(16, 14));
+    assert_eq!(changed(18, &[0xFD]), refused(21, 14));
+    assert_eq!(changed(158, &[2, 0, 18, 0, 7]), refused(21, 158));
+    assert_eq!(changed(14, &[0, 0, 0, 0x80]), refused(19, 14));
+    assert_eq!(changed(14, &[2, 0, 18, 0, 8, 0]), refused(19, 14));
     assert_eq!(changed(10, &1_000_000_u32.to_le_bytes()), Ok(1_000_000));
     assert_eq!(changed(10, &1_000_001_u32.to_le_bytes()), refused(7, 0));
-    assert_eq!(changed(32, &[13]), refused(16, 32));
+    assert_eq!(changed(32, &[13]), refused(20, 32));
     for (length, place) in [(163, 158), (158, 158), (160, 158), (157, 140), (14, 14), (13, 0), (0, 0)] {
         assert_eq!(received(&file[..length], 24), refused(16, place), "{length}");
     }
-    assert_eq!(received(&[&file[..], &[0]].concat(), 24), refused(16, 164));
+    for after in [&[0][..], &[0, 0], &[0, 0, 20], &[0, 0, 20, 0], &[9, 0, 20, 0], &file[158..]] {
+        assert_eq!(received(&[&file[..], after].concat(), 24), refused(21, 164), "{after:?}");
+    }
 }
 
 /// Cells that no columns give: a start at −2 with 5 for thickness 2, and 0 everywhere else.
@@ -463,29 +492,33 @@ fn worked_orders_read() {
     for number in [4, 5, ANY] {
         assert_eq!(ordered(plate, &file, number), Ok((50, 0, 2)));
     }
-    let refused_at = |printing: Printing, file: &[u8], place: u64| {
-        for number in [0, 3, ANY] {
-            assert_eq!(ordered(printing, file, number), refused(16, place));
+    let refused_at = |printing: Printing, file: &[u8], number: u32, place: u64| {
+        for order in [0, 3, ANY] {
+            assert_eq!(ordered(printing, file, order), refused(number, place));
         }
     };
-    refused_at(plate, &lifted(plate, &[2, 4, 6, 8]), 48);
-    refused_at(plate, &lifted(plate, &[2, 5, 7]), 32);
-    refused_at(plate, &lifted(plate, &[2]), 16);
-    refused_at(plate, &[2, 0, 50, 0, 0, 0], 0);
+    refused_at(plate, &lifted(plate, &[2, 4, 6, 8]), 21, 48);
+    refused_at(plate, &lifted(plate, &[2, 5, 7]), 21, 32);
+    refused_at(plate, &lifted(plate, &[2]), 21, 16);
+    refused_at(plate, &[2, 0, 50, 0, 0, 0], 19, 0);
     for first in ["00007140", "000070C0", "0000C07F", "00000080"] {
-        refused_at(plate, &[&file[..4], &bytes(first), &file[8..]].concat(), 0);
+        refused_at(plate, &[&file[..4], &bytes(first), &file[8..]].concat(), 21, 0);
     }
-    refused_at(plate, &file[..37], 32);
-    refused_at(plate, &[&file[..], &[0]].concat(), 38);
-    refused_at(printing(15, &[0, 0, 160]), &file, 0);
-    for nothing in [&file[..], &[], &[0; 100]] {
-        refused_at(printing(15, &[9, 0, 0]), nothing, 0);
+    refused_at(plate, &[&[5], &file[1..]].concat(), 20, 0);
+    refused_at(plate, &[&[5], &file[1..8]].concat(), 20, 0);
+    refused_at(plate, &file[..37], 16, 32);
+    for after in [&[0][..], &[0, 0], &[0, 0, 51], &[0, 0, 51, 0], &[9, 0, 51, 0], &file[32..]] {
+        refused_at(plate, &[&file[..], after].concat(), 21, 38);
+    }
+    refused_at(printing(15, &[0, 0, 160]), &file, 21, 0);
+    for (nothing, number) in [(&file[..], 21), (&[], 16), (&[0; 100], 19)] {
+        refused_at(printing(15, &[9, 0, 0]), nothing, number, 0);
     }
     assert_eq!(ordered(printing(15, &[0, 128]), &[], 0), refused(3, 1));
     assert_eq!(ordered(printing(0, &[0, 128]), &[], 0), refused(14, 0));
 }
 
-// ---- The outside vectors of document 02, b), c) and e) ----
+// ---- The outside vectors of document 02, b), c), e) and f) ----
 
 /// The cases of tools/vectors/NAME.txt, each by its fields.
 fn outside(name: &str) -> Vec<Vec<String>> {
@@ -512,6 +545,22 @@ fn answered(number: &str, value: &str) -> Answer<u64> {
     match one(number) {
         0 => Ok(one(value)),
         number => refused(number, one(value)),
+    }
+}
+
+/// A vector's numbers, or those of before document 02's f), when every fault of a file was 16.
+#[derive(Clone, Copy)]
+enum Numbers {
+    Split,
+    Unsplit,
+}
+
+impl Numbers {
+    fn of<T>(self, answer: Answer<T>) -> Answer<T> {
+        answer.map_err(|refusal| match (self, refusal.number) {
+            (Numbers::Unsplit, 19..=21) => Refusal { number: 16, ..refusal },
+            _ => refusal,
+        })
     }
 }
 
@@ -589,7 +638,18 @@ fn outside_plans() {
     }
 }
 
-fn outside_tables_read(name: &str, number: usize) {
+#[test]
+fn outside_jobs_loaded() {
+    let cases = outside("f/job");
+    assert_eq!(cases.len(), 291);
+    for (case, fields) in cases.iter().enumerate() {
+        let [height, set, bound, columns] = [3, 4, 5, 6].map(|i| one(&fields[i]));
+        let expected = answered(&fields[1], &fields[2]).map(|_| Loaded { head: Head { height, set, columns }, bound });
+        assert_eq!(read_job(&bytes(&fields[0]), usize::MAX, &mut [0; 4_096]), expected, "case {case}");
+    }
+}
+
+fn outside_tables_read(name: &str, number: usize, numbers: Numbers) {
     let cases = outside(name);
     assert_eq!(cases.len(), number);
     for (case, fields) in cases.iter().enumerate() {
@@ -599,7 +659,7 @@ fn outside_tables_read(name: &str, number: usize) {
             (answered(&fields[2], &fields[3]).map(|_| Head { height, set, columns }), left(&before, &list(&fields[7])));
         for read in [read_table, quick::read_table] {
             let mut table = before.clone();
-            let answer = read(&bytes(&fields[0]), &mut table);
+            let answer = numbers.of(read(&bytes(&fields[0]), &mut table));
             assert_eq!((answer, table), expected, "{name}, case {case}");
         }
     }
@@ -607,9 +667,12 @@ fn outside_tables_read(name: &str, number: usize) {
 
 #[test]
 fn outside_tables_received() {
-    outside_tables_read("c/read", 324);
-    outside_tables_read("c/cut", 63);
-    outside_tables_read("c/bytes", 92);
+    outside_tables_read("c/read", 324, Numbers::Unsplit);
+    outside_tables_read("c/cut", 63, Numbers::Unsplit);
+    outside_tables_read("c/bytes", 92, Numbers::Unsplit);
+    outside_tables_read("f/table-read", 321, Numbers::Split);
+    outside_tables_read("f/table-cut", 63, Numbers::Split);
+    outside_tables_read("f/table-bytes", 91, Numbers::Split);
 }
 
 #[test]
@@ -629,13 +692,13 @@ fn outside_tables_sent() {
     }
 }
 
-fn outside_orders_read(name: &str, number: usize) {
+fn outside_orders_read(name: &str, number: usize, numbers: Numbers) {
     let cases = outside(name);
     assert_eq!(cases.len(), number);
     for (case, fields) in cases.iter().enumerate() {
         let [height, set, step, number] = [0, 1, 2, 5].map(|i| one(&fields[i]));
         let cure = list(&fields[3]);
-        let answer = ordered(Printing { height, set, step, cure: &cure }, &bytes(&fields[4]), number);
+        let answer = numbers.of(ordered(Printing { height, set, step, cure: &cure }, &bytes(&fields[4]), number));
         let [kind, whole, bits] = [8, 9, 10].map(|i| one::<u32>(&fields[i]));
         let layers = if kind == 50 { whole } else { 0 };
         let expected = answered(&fields[6], &fields[7]).map(|_| (kind, bits, layers));
@@ -649,9 +712,12 @@ fn outside_orders_read(name: &str, number: usize) {
 
 #[test]
 fn outside_orders_given() {
-    outside_orders_read("e/read", 334);
-    outside_orders_read("e/cut", 55);
-    outside_orders_read("e/bytes", 76);
+    outside_orders_read("e/read", 334, Numbers::Unsplit);
+    outside_orders_read("e/cut", 55, Numbers::Unsplit);
+    outside_orders_read("e/bytes", 76, Numbers::Unsplit);
+    outside_orders_read("f/order-read", 326, Numbers::Split);
+    outside_orders_read("f/order-cut", 55, Numbers::Split);
+    outside_orders_read("f/order-bytes", 76, Numbers::Split);
 }
 
 #[test]

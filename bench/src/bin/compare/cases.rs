@@ -27,15 +27,15 @@ pub const CALLS: &[Call] = &[
     Call { name: "recount", refusals: &[1, 2, 3, 7, 6, 13], case: recount },
     Call { name: "picture", refusals: &[1, 2, 4, 5, 13], case: picture },
     Call { name: "motor height", refusals: &[14, 15], case: motor_height },
-    Call { name: "read job", refusals: &[16, 1, 2, 17, 4, 5, 3], case: read_job },
+    Call { name: "read job", refusals: &[16, 19, 20, 21, 1, 2, 17, 4, 5, 3], case: read_job },
     Call { name: "job size", refusals: &[7, 4], case: job_size },
     Call { name: "write job", refusals: &[1, 2, 7, 4, 3, 5], case: write_job },
-    Call { name: "read table", refusals: &[16, 1, 2, 7, 6, 3], case: read_table },
+    Call { name: "read table", refusals: &[16, 19, 20, 21, 1, 2, 7, 6, 3], case: read_table },
     Call { name: "write table", refusals: &[1, 2, 3, 7, 6], case: write_table },
-    Call { name: "send table", refusals: &[16], case: send_table },
+    Call { name: "send table", refusals: &[16, 19, 20, 21], case: send_table },
     Call { name: "write orders", refusals: &[1, 2, 14, 3, 13, 18], case: write_orders },
-    Call { name: "read order", refusals: &[1, 2, 14, 3, 16], case: read_order },
-    Call { name: "give orders", refusals: &[16], case: give_orders },
+    Call { name: "read order", refusals: &[1, 2, 14, 3, 16, 19, 20, 21], case: read_order },
+    Call { name: "give orders", refusals: &[16, 19, 20, 21], case: give_orders },
 ];
 
 /// The difference, with the case that shows it.
