@@ -205,7 +205,7 @@ pub const FAULTS: &[&str] = &[
     "read order: a lift may be of two layers at once",
     "read order: a cure time 0 is found at the cure",
     "read order: a cure time 0 is let through",
-    "read order: some allowed thickness of cure time 0 is 16 at 0",
+    "read order: some allowed thickness of cure time 0 is 21 at 0",
     "read order: a layer that begins at N from the lowest start is let through",
     "read order: layers are held to a first boundary of 0",
     "read order: layers are held to the lowest start of all",
@@ -228,14 +228,14 @@ pub const FAULTS: &[&str] = &[
     "read order: what is behind the order asked for is not judged",
     "read order: a file cut behind the order asked for is read",
     "read order: a record that is cut off is told at the end of the input",
-    "read order: 16 at the layer's lift",
-    "read order: 16 at the body",
+    "read order: a fault of the file is told at the layer's lift",
+    "read order: a fault of the file is told at the body",
     "read order: 2 comes before 1",
     "read order: 14 comes before 2",
     "read order: 14 is asked after the file",
     "read order: 14 for the greatest step",
     "read order: 3 for the list comes before 14",
-    "read order: 16 comes before 3 for the list",
+    "read order: the file's faults come before 3 for the list",
     "read order: 3 for the list is at 2",
     "read order: the list may be as short as T has members",
     "read order: a longer list is refused",
@@ -253,6 +253,50 @@ pub const FAULTS: &[&str] = &[
     "read order: an order done has its place",
     "read order: the file is written",
     "read order: the cure list is written",
+    "read job: a kind that is not known is 16",
+    "read job: a known kind out of place is 21",
+    "read job: the kind is judged after the length",
+    "read job: the kind is judged after the body",
+    "read job: the length is judged after the body",
+    "read job: a body that is cut off is 20",
+    "read job: a head that is cut off is 20",
+    "read job: contents that disagree are 16",
+    "read job: fewer than 4 bytes after the end are 16",
+    "read job: a kind not known after the end is 19",
+    "read job: a length wrong for its kind after the end is 20",
+    "read job: a record cut off after the end is 16",
+    "read job: a second settings record is 21",
+    "read job: another end count is 20",
+    "read table: a kind that is not known is 16",
+    "read table: a known kind out of place is 21",
+    "read table: the kind is judged after the length",
+    "read table: the kind is judged after the body",
+    "read table: the length is judged after the body",
+    "read table: a body that is cut off is 20",
+    "read table: a head that is cut off is 20",
+    "read table: contents that disagree are 16",
+    "read table: fewer than 4 bytes after the end are 16",
+    "read table: a kind not known after the end is 19",
+    "read table: a length wrong for its kind after the end is 20",
+    "read table: a record cut off after the end is 16",
+    "read table: an end straight after the opening is 21",
+    "read table: a row too many is 19",
+    "read table: rows missing are 19",
+    "read order: a kind that is not known is 16",
+    "read order: a known kind out of place is 21",
+    "read order: the kind is judged after the length",
+    "read order: the kind is judged after the body",
+    "read order: the length is judged after the body",
+    "read order: a body that is cut off is 20",
+    "read order: a head that is cut off is 20",
+    "read order: contents that disagree are 16",
+    "read order: fewer than 4 bytes after the end are 16",
+    "read order: a kind not known after the end is 19",
+    "read order: a length wrong for its kind after the end is 20",
+    "read order: a record cut off after the end is 16",
+    "read order: a finish first of all is 21",
+    "read order: a layer too many is 19",
+    "read order: a finish below N is 19",
 ];
 
 fn fault() -> usize {
@@ -764,6 +808,83 @@ extern "C" fn shagorent_motor_height(step: u32, boundary: i32) -> Lifted {
     lifted
 }
 
+/// The kinds of a file: the first one, the others in their order, the end last, and the lengths that they have where they have one.
+type Kinds = [(u16, Option<usize>)];
+
+const JOB: [(u16, Option<usize>); 3] = [(1, Some(10)), (2, None), (3, Some(4))];
+const TABLE: [(u16, Option<usize>); 3] = [(16, Some(10)), (17, None), (18, Some(2))];
+const ORDERS: [(u16, Option<usize>); 3] = [(48, Some(4)), (49, Some(4)), (50, Some(2))];
+
+/// A fault of a file told by another number than document 02's f) gives it. Where the file up to there is read, what is left stands after the end.
+fn split_wrongly(call: &str, kinds: &Kinds, file: &[u8], refusal: Refusal, is_read: impl Fn(&[u8]) -> bool) -> Refusal {
+    if fault() == 0 || !matches!(refusal.number, 16 | 19..=21) {
+        return refusal;
+    }
+    let left = &file[refusal.place as usize..];
+    let number = match refusal.number == 21 && is_read(&file[..refusal.place as usize]) {
+        true => after_wrongly(call, kinds, left),
+        false => record_wrongly(call, kinds, left, refusal),
+    };
+    Refusal { number: number.unwrap_or(refusal.number), ..refusal }
+}
+
+/// The length and the kind of a record, and whether the kind is known, the length one that it has, and the body cut off.
+struct Frame {
+    kind: u16,
+    is_known: bool,
+    is_length_right: bool,
+    is_cut: bool,
+}
+
+impl Frame {
+    fn of(kinds: &Kinds, left: &[u8]) -> Option<Frame> {
+        let (head, body) = left.split_at_checked(4)?;
+        let [length, kind] = [[head[0], head[1]], [head[2], head[3]]].map(u16::from_le_bytes);
+        let known = kinds.iter().find(|known| known.0 == kind);
+        let is_length_right = known.is_none_or(|known| known.1.is_none_or(|due| due == usize::from(length)));
+        Some(Frame { kind, is_known: known.is_some(), is_length_right, is_cut: body.len() < usize::from(length) })
+    }
+}
+
+/// The wrong number for bytes after the end, where one is planted.
+fn after_wrongly(call: &str, kinds: &Kinds, left: &[u8]) -> Option<u32> {
+    let planted = |fault: &str| is(&format!("{call}: {fault}"));
+    let Some(frame) = Frame::of(kinds, left) else {
+        return planted("fewer than 4 bytes after the end are 16").then_some(16);
+    };
+    let number = match frame {
+        _ if !frame.is_known && planted("a kind not known after the end is 19") => 19,
+        _ if !frame.is_length_right && planted("a length wrong for its kind after the end is 20") => 20,
+        _ if frame.is_cut && planted("a record cut off after the end is 16") => 16,
+        _ => return None,
+    };
+    Some(number)
+}
+
+/// The wrong number for a record at fault before the end, where one is planted.
+fn record_wrongly(call: &str, kinds: &Kinds, left: &[u8], refusal: Refusal) -> Option<u32> {
+    let planted = |fault: &str| is(&format!("{call}: {fault}"));
+    let Some(Frame { kind, is_known, is_length_right, is_cut }) = Frame::of(kinds, left) else {
+        return planted("a head that is cut off is 20").then_some(20);
+    };
+    let (first, end) = (kinds[0].0, kinds[2].0);
+    let number = match refusal.number {
+        19 if !is_known && planted("a kind that is not known is 16") => 16,
+        19 if is_known && planted("a known kind out of place is 21") => 21,
+        19 if !is_length_right && planted("the kind is judged after the length") => 20,
+        19 if is_cut && planted("the kind is judged after the body") => 16,
+        19 if kind == first && planted("a second settings record is 21") => 21,
+        19 if kind == end && refusal.place == 14 && planted("an end straight after the opening is 21") => 21,
+        19 if kind == end && refusal.place == 0 && planted("a finish first of all is 21") => 21,
+        20 if is_cut && planted("the length is judged after the body") => 16,
+        16 if is_cut && planted("a body that is cut off is 20") => 20,
+        21 if planted("contents that disagree are 16") => 16,
+        21 if kind == end && planted("another end count is 20") => 20,
+        _ => return None,
+    };
+    Some(number)
+}
+
 #[no_mangle]
 unsafe extern "C" fn shagorent_read_job(
     input: *const u8,
@@ -775,7 +896,7 @@ unsafe extern "C" fn shagorent_read_job(
     let (input, table) = (lent(input, n), lent_mut(table, t));
     let mut answer = plain::read_job(input, most, table);
     let refused = answer.err().map_or(0, |r| r.number);
-    if refused == 16 && is("read job: bytes after the end are let through") {
+    if refused == 21 && is("read job: bytes after the end are let through") {
         let cut = answer.err().map_or(0, |r| r.place as usize);
         answer = plain::read_job(&input[..cut], most, table).or(answer);
     }
@@ -787,7 +908,7 @@ unsafe extern "C" fn shagorent_read_job(
         table.fill(0);
     }
     if refused == 0 && is("read job: the remarks begin one kind later") && input[2..4] == [0, 128] {
-        answer = Err(Refusal { number: 16, place: 0 });
+        answer = Err(Refusal { number: 19, place: 0 });
     }
     if is("read job: 17 by document 01's M") {
         if let Ok(plate) = answer.and_then(|loaded| loaded.head.plate()) {
@@ -795,7 +916,8 @@ unsafe extern "C" fn shagorent_read_job(
             answer = if entries as usize > most { Err(Refusal { number: 17, place: 0 }) } else { answer };
         }
     }
-    let mut loaded = as_loaded(answer);
+    let is_read = |file: &[u8]| plain::read_job(file, usize::MAX, &mut vec![0; 20_000]).is_ok();
+    let mut loaded = as_loaded(answer.map_err(|refusal| split_wrongly("read job", &JOB, input, refusal, is_read)));
     if is("read job: the set and the column count are swapped") {
         swap(&mut loaded.head.set, &mut loaded.head.columns);
     }
@@ -1088,7 +1210,9 @@ fn mend_end(laid: Laid, file: &mut Vec<u8>) {
 unsafe extern "C" fn shagorent_read_table(input: *const u8, n: usize, table: *mut u32, t: usize) -> Tabled {
     let (file, lent) = (lent(input, n), lent_mut(table, t));
     let before = lent.to_vec();
-    let answer = plain::read_table(&mended(file), lent);
+    let is_read = |file: &[u8]| plain::receive(file).is_ok();
+    let split = |refusal: Refusal| split_wrongly("read table", &TABLE, file, refusal, is_read);
+    let answer = plain::read_table(&mended(file), lent).map_err(split);
     match (answer, Laid::of(file)) {
         (Ok(head), laid) => {
             let answer = received_wrongly(file, head, &before, lent);
@@ -1149,6 +1273,14 @@ fn not_received_wrongly(file: &[u8], refusal: Refusal, laid: Option<Laid>, table
         return at(3, 1);
     }
     let (place, rows) = (place as usize, laid.rows(file));
+    if number == 21 && place <= laid.end() {
+        let is_end = file[place..].starts_with(&[2, 0, 18, 0]);
+        if is_end && place < laid.end() && is("read table: rows missing are 19")
+            || !is_end && place == laid.end() && is("read table: a row too many is 19")
+        {
+            return at(19, place);
+        }
+    }
     if place > laid.end() || place == laid.end() && rows.len() as i64 == laid.plate.rows() {
         if is("read table: the table is written before the last record is judged") {
             store(laid, file, &rows, table);
@@ -1163,12 +1295,12 @@ fn not_received_wrongly(file: &[u8], refusal: Refusal, laid: Option<Laid>, table
             return at(6, row * laid.plate.tmax as usize + over[0]);
         }
         let is_row = file[place..place + 4] == [laid.stride() as u8 - 4, 0, 17, 0];
-        if number == 16 && is_row && !over.is_empty() && is("read table: 6 comes before another start") {
+        if number == 21 && is_row && !over.is_empty() && is("read table: 6 comes before another start") {
             return at(6, place);
         }
         let skips = is_row && file[place + 4..place + 6] == laid.start(place + laid.stride());
-        if number == 16 && skips && is("read table: a row that skips one is told at the end") {
-            return at(16, file.len() - 6);
+        if number == 21 && skips && is("read table: a row that skips one is told at the end") {
+            return at(21, file.len() - 6);
         }
     }
     Err(refusal)
@@ -1567,14 +1699,16 @@ fn amount_at(file: &[u8], place: usize) -> f32 {
 
 fn order_of(printing: Printing, file: &[u8], number: u32) -> Answer<Order> {
     let printer = match printer("read order", printing) {
-        Err(Refusal { number: 3, place }) if is("read order: 16 comes before 3 for the list") => {
+        Err(Refusal { number: 3, place }) if is("read order: the file's faults come before 3 for the list") => {
             let plate = Plate::new(printing.height, printing.set)?;
             orders_judged(Printer { plate, step: printing.step, cure: printing.cure }, file, number)?;
             return Err(Refusal { number: 3, place });
         }
         printer => printer?,
     };
-    let layers = orders_judged(printer, file, number)?;
+    let is_read = |file: &[u8]| plain::read_order(printing, file, 0).is_ok();
+    let split = |refusal: Refusal| split_wrongly("read order", &ORDERS, file, refusal, is_read);
+    let layers = orders_judged(printer, file, number).map_err(split)?;
     if printing.step == 0 || printing.step > plain::MOST_STEP {
         return Err(Refusal { number: 14, place: 0 });
     }
@@ -1605,7 +1739,7 @@ struct Reading {
     finished: bool,
 }
 
-/// The layers of an order file, or 16 at the record at fault.
+/// The layers of an order file, or what is wrong at the record at fault.
 fn orders_judged(printer: Printer, file: &[u8], number: u32) -> Answer<usize> {
     let kept = is("read order: remarks are skipped").then(|| {
         let mut kept = file.to_vec();
@@ -1614,8 +1748,8 @@ fn orders_judged(printer: Printer, file: &[u8], number: u32) -> Answer<usize> {
     });
     let file = kept.as_deref().unwrap_or(file);
     let uncured = printer.plate.thicknesses().any(|t| printer.entry(t) == 0);
-    if uncured && is("read order: some allowed thickness of cure time 0 is 16 at 0") {
-        return refused(16, 0).map(|_| 0);
+    if uncured && is("read order: some allowed thickness of cure time 0 is 21 at 0") {
+        return refused(21, 0).map(|_| 0);
     }
     let mut reading = Reading::default();
     while !reading.finished {
@@ -1630,7 +1764,7 @@ fn orders_judged(printer: Printer, file: &[u8], number: u32) -> Answer<usize> {
         || (number as usize) < 2 * reading.layers && is("read order: what is behind the order asked for is not judged");
     if after > 0 && !passes {
         let back = if is("read order: bytes after the finish are told at the finish") { 6 } else { 0 };
-        return refused(16, reading.at - back).map(|_| 0);
+        return refused(21, reading.at - back).map(|_| 0);
     }
     Ok(reading.layers)
 }
@@ -1639,6 +1773,7 @@ fn orders_judged(printer: Printer, file: &[u8], number: u32) -> Answer<usize> {
 fn let_through(printer: Printer, file: &[u8], number: u32, reading: Reading) -> Answer<usize> {
     let Reading { at, layers, .. } = reading;
     let left = file.len() - at;
+    let broken = plain::order_broken(&file[at..], 2 * layers + usize::from(reading.thickness > 0));
     let is_asked_before = (number as usize) < at / 8;
     let is_cut = left < 8 && (left < 4 || left < 4 + usize::from(file[at]));
     if is_asked_before && is("read order: what is behind the order asked for is not judged") {
@@ -1648,23 +1783,27 @@ fn let_through(printer: Printer, file: &[u8], number: u32, reading: Reading) -> 
         return Ok(layers + 1);
     }
     if is_cut && is("read order: a record that is cut off is told at the end of the input") {
-        return refused(16, file.len()).map(|_| 0);
+        return refused(broken, file.len()).map(|_| 0);
     }
-    if at % 16 == 8 && is("read order: 16 at the layer's lift") {
-        return refused(16, at - 8).map(|_| 0);
+    if at % 16 == 8 && is("read order: a fault of the file is told at the layer's lift") {
+        return refused(broken, at - 8).map(|_| 0);
     }
-    if left >= 4 && is("read order: 16 at the body") {
-        return refused(16, at + 4).map(|_| 0);
+    if left >= 4 && is("read order: a fault of the file is told at the body") {
+        return refused(broken, at + 4).map(|_| 0);
     }
     let is_finish = file[at..].starts_with(&[2, 0, 50, 0]);
-    if layers > 0
-        && is_finish
-        && reading.rise < printer.plate.height
-        && is("read order: a finish below N is told at the last lift")
+    let is_low = layers > 0 && is_finish && reading.rise < printer.plate.height;
+    let is_full = layers > 0 && reading.rise >= printer.plate.height + reading.first - 1;
+    if broken == 21
+        && (is_low && is("read order: a finish below N is 19")
+            || is_full && !is_finish && is("read order: a layer too many is 19"))
     {
-        return refused(16, at - 16).map(|_| 0);
+        return refused(19, at).map(|_| 0);
     }
-    refused(16, at).map(|_| 0)
+    if is_low && is("read order: a finish below N is told at the last lift") {
+        return refused(broken, at - 16).map(|_| 0);
+    }
+    refused(broken, at).map(|_| 0)
 }
 
 /// Whether the next record passes; the reading goes on behind it.

@@ -1,8 +1,9 @@
 // Cases that are run every time: the limits that document 01 wants run on both sides, every sequence of small plates and walks down their
-// sheets, every motor height, files of 1,000,000 columns, read and written, table files changed in one place or two, those of adding, and those of
-// orders.
+// sheets, every motor height, files of 1,000,000 columns, read and written, table files changed in one place or two, those of adding, those of
+// orders, and those of broken files.
 
 use crate::adding::adding;
+use crate::broken::broken;
 use crate::cases::{added, lifted, loaded, pictured, planned, read, read_as_it_was, received, recounted, sent};
 use crate::cases::{sized, sizes_of, written};
 use crate::cases::{LentSheets, Outcome, Saved};
@@ -15,6 +16,7 @@ use bench::random::Random;
 pub fn edges(random: &mut Random) -> Result<u64, String> {
     let mut cases = 0;
     let mut note = |outcome: Outcome| outcome.map(|_| cases += 1);
+    broken(random, &mut note)?;
     orders(random, &mut note)?;
     table_files(random, &mut note)?;
     table_file_bytes(random, &mut note)?;

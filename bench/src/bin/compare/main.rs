@@ -2,6 +2,7 @@
 // Arguments: --seed S, --rounds R (a round is one case of each call), --case K (only that round, to see a difference again).
 
 mod adding;
+mod broken;
 mod cases;
 mod edges;
 mod lent;
