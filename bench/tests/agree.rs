@@ -1,6 +1,6 @@
 // The plain implementation against the listing of every sequence, on many small random plates and bounds: the table, both sheets, the
 // list, every sequence read back, sheets that hold anything, recounts of good and bad sequences, pictures, tables joined and taken off, job
-// files, read and saved, tables sent, and orders written and read.
+// files, read and saved, tables sent, and orders written and read; and which faults of a file wait for more bytes.
 
 use bench::brute;
 use bench::make;
@@ -303,6 +303,51 @@ fn table_files_agree() {
 }
 
 const MOST_CELLS: usize = 18_368;
+
+/// What document 02's f) is for: a file at fault by 16 alone can go on so that there is no 16 at that place; any other fault stays, whatever bytes
+/// follow; and nothing may follow a good file.
+#[test]
+fn only_16_waits_for_more() {
+    let mut seen = [0; 4];
+    for case in 0..PLATES {
+        let mut random = Random::new(SEED, case);
+        let size = make::size(&mut random);
+        let plate = make::plate(&mut random, size);
+        let (height, set, cure) = (plate.height as u32, plate.set, make::cure(&mut random, plate));
+        let printing = Printing { height, set, step: 15, cure: &cure };
+        let files = [
+            make::file(&mut random, plate),
+            make::handed_table_file(&mut random, plate, size),
+            make::handed_order_file(&mut random, plate, 15, &cure),
+        ];
+        let readers: [&dyn Fn(&[u8]) -> Option<Refusal>; 3] = [
+            &|file| read_job(file, usize::MAX, &mut vec![0; MOST_CELLS]).err(),
+            &|file| read_table(file, &mut vec![0; MOST_CELLS]).err(),
+            &|file| read_order(printing, file, 0).err(),
+        ];
+        for (file, read) in files.iter().zip(readers) {
+            let more: Vec<u8> = (0..random.within(1, 9)).map(|_| random.word() as u8).collect();
+            compare_longer(case, file, &more, read);
+            let number = read(file).map_or(0, |refusal| refusal.number);
+            [16, 19, 20, 21].iter().position(|&one| one == number).map(|one| seen[one] += 1);
+        }
+    }
+    assert!(seen.iter().all(|&times| times > PLATES / 20), "{seen:?}");
+}
+
+fn compare_longer(case: u64, file: &[u8], more: &[u8], read: &dyn Fn(&[u8]) -> Option<Refusal>) {
+    match read(file) {
+        None => {
+            let after = Refusal { number: 21, place: file.len() as u64 };
+            assert_eq!(read(&[file, more].concat()), Some(after), "case {case}");
+        }
+        Some(refusal) if refusal.number == 16 => {
+            let filled_up = [file, &vec![0; 65_540]].concat();
+            assert_ne!(read(&filled_up), Some(refusal), "case {case}");
+        }
+        refusal => assert_eq!(read(&[file, more].concat()), refusal, "case {case}"),
+    }
+}
 
 /// The bits of an order's float, or its layers, behind its kind.
 fn shown(order: Order) -> (u16, u32) {
