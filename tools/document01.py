@@ -603,6 +603,51 @@ def read_record(data, at, state):
     return Step("remark", (), after, state)
 
 
+# ---- A file by its kinds alone, request f) of document 02
+
+
+@dataclasses.dataclass(frozen=True)
+class Grammar:
+    """The kinds of a file, a letter each, and the lists of them that a file can begin with."""
+
+    letters: dict
+    beginnings: str
+
+    def kinds(self, data):
+        """As far as the lengths say. A remark is r, and what is not known a dot."""
+        found, at = "", 0
+        while len(data) - at >= 4:
+            length, kind = struct.unpack_from("<HH", data, at)
+            found, at = found + self.letters.get(kind, "r" if kind >= 32768 else "."), at + 4 + length
+        return found
+
+    def broken(self, data, at, is_wrong, is_whole):
+        """Which way the file is broken at the record at this place, before its contents are looked at; not at all is none. It is whole where the
+        end is behind."""
+        if is_whole:
+            return 21 if at < len(data) else None
+        if len(data) - at < 4:
+            return 16
+        length, kind = struct.unpack_from("<HH", data, at)
+        if not re.fullmatch(self.beginnings, self.kinds(data[:at + 4])):
+            return 19
+        if is_wrong(kind, length):
+            return 20
+        return 16 if len(data) - at < 4 + length else None
+
+
+JOB_FILE = Grammar({1: "s", 2: "c", 3: "e"}, "r*(s[cr]*e?)?")
+TABLE_FILE = Grammar({16: "t", 17: "w", 18: "e"}, "(t(w+e?)?)?")
+ORDER_FILE = Grammar({48: "l", 49: "c", 50: "f"}, "(lc)*l?|(lc)+f")
+"""Job files are `s c* e`, with remarks anywhere before the end; table files `t w+ e`; order files `(l c)+ f`."""
+
+
+def ask_broken(number, broken):
+    """The two readings, check by check and by the kinds alone, tell the same of a record before its contents."""
+    frame = FAULTS["cut"], FAULTS["kind"], FAULTS["length"], FAULTS["body"]
+    assert number == broken if broken else number not in frame, (number, broken)
+
+
 # ---- Job file: the whole of it
 
 
@@ -616,6 +661,7 @@ def read_file(data, most):
     at, state, columns = 0, State(), []
     while True:
         step = read_record(data, at, state)
+        ask_broken(step.numbers[0] if step.what == "refused" else None, JOB_FILE.broken(data, at, is_length_wrong, state.ended))
         if step.what == "refused":
             raise Refused(*step.numbers)
         if step.what == "settings":
@@ -833,8 +879,9 @@ def table_faults(data):
 def table_in(data):
     """What a table file holds. The first record at fault decides, and each place is the record's first byte."""
     for at, checks, read in table_records(data):
-        for _, number, is_so in checks:
-            refuse(number, is_so, at)
+        number = next((number for _, number, is_so in checks if is_so), None)
+        ask_broken(number, TABLE_FILE.broken(data, at, lambda *frame: is_table_length_wrong(*frame, read), read.ended))
+        refuse(number, number is not None, at)
     return read
 
 
@@ -1090,11 +1137,18 @@ def order_faults(data, printer):
     return [name for _, checks, _ in order_records(data, printer) for name, _, is_so in checks if is_so]
 
 
+def is_last_record(data, at):
+    """Where the kinds of a good file are asked for once; at every record of a long one that takes its time."""
+    return at + 6 == len(data)
+
+
 def orders_by_records(data, printer):
     """The orders of a file. The first record at fault decides, and each place is the record's first byte."""
     for at, checks, read in order_records(data, printer):
-        for _, number, is_so in checks:
-            refuse(number, is_so, at)
+        number = next((number for _, number, is_so in checks if is_so), None)
+        if number is not None or is_last_record(data, at):
+            ask_broken(number, ORDER_FILE.broken(data, at, is_order_length_wrong, read.ended))
+        refuse(number, number is not None, at)
     return list(read.orders)
 
 
@@ -1117,30 +1171,6 @@ def files_by_definition(height, members, step, cure):
     return found, beginnings
 
 
-def order_kinds(data):
-    """The kinds of a file, a letter each, as far as its lengths say; a dot for one that is no order."""
-    found, at = "", 0
-    while len(data) - at >= 4:
-        length, kind = struct.unpack_from("<HH", data, at)
-        found, at = found + {48: "l", 49: "c", 50: "f"}.get(kind, "."), at + 4 + length
-    return found
-
-
-def broken_by_definition(data, at, is_whole):
-    """Which way a file is broken at the record at this place, of which the kinds are those of lifts and cures in turn, at least one of each, and
-    then one finish."""
-    if is_whole:
-        return 21
-    if len(data) - at < 4:
-        return 16
-    length, kind = struct.unpack_from("<HH", data, at)
-    if not re.fullmatch("(lc)*l?|(lc)+f", order_kinds(data[:at + 4])):
-        return 19
-    if length != (2 if kind == 50 else 4):
-        return 20
-    return 16 if len(data) - at < 4 + length else 21
-
-
 def orders_by_definition(data, height, members, step, cure):
     """The same for a plate that has few sequences: a file is good if it is that of one of them; and no such file is possible after the record that
     stands behind the longest beginning of any of them."""
@@ -1148,7 +1178,7 @@ def orders_by_definition(data, height, members, step, cure):
     if data in found:
         return found[data]
     place = max(at for at in range(len(data) + 1) if data[:at] in beginnings)
-    raise Refused(broken_by_definition(data, place, data[:place] in found), place)
+    raise Refused(ORDER_FILE.broken(data, place, is_order_length_wrong, data[:place] in found) or 21, place)
 
 
 def answered(call, *arguments):
