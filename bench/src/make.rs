@@ -811,6 +811,7 @@ fn damage_order_file(random: &mut Random, plate: Plate, step: u32, cure: &[u16],
     let one = random.pick(&[any, any, last]);
     match random.below(16) {
         0 | 1 => cut_near(random, one, file),
+        2 if random.one_in(2) => file.extend_from_within(one.0..one.1),
         2 => file.extend((0..random.pick(&[1, 1, 2, 3, 4, 6, 8])).map(|_| random.pick(&[0, 0, 2, 50, 255]))),
         3..=6 => damage_amount(random, step, &places, any, file),
         7 | 8 => {

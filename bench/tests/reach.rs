@@ -190,8 +190,12 @@ fn see_fault(seen: &mut Seen, file: &[u8], fault: Fault, place: usize) {
     note(seen, "an opening's body cut off", cut_body(16));
     note(seen, "a row's body cut off", cut_body(17));
     note(seen, "an end's body cut off", cut_body(18));
+    note(seen, "another kind, and its body cut off", fault == Fault::Kind && length > Some(body.len() as u16));
     note(seen, "bytes after the end, fewer than 4", fault == Fault::After && left.len() < 4);
-    note(seen, "bytes after the end, 4 or more", fault == Fault::After && left.len() >= 4);
+    let after = fault == Fault::After && left.len() >= 4;
+    note(seen, "a record after the end of a kind that is known", after && (Some(16)..=Some(18)).contains(&kind));
+    note(seen, "a record after the end of a kind that is not", after && !(Some(16)..=Some(18)).contains(&kind));
+    note(seen, "a record after the end, and its body cut off", after && length > Some(body.len() as u16));
     for (name, number) in [("1", 1), ("2", 2), ("7", 7), ("6", 6)] {
         note(seen, name, fault == Fault::Refused(number));
     }
@@ -472,8 +476,13 @@ fn see_order_fault(seen: &mut Seen, handed: &Handed<Vec<u8>>, fault: quick::Faul
     }
     note(seen, "a finish below N", fault == Fault::Below);
     note(seen, "a finish one below N", fault == Fault::Below && rise(handed, layer) == top - 1);
+    let is_cut = left.len() >= 4 && length > Some(left.len() as u16 - 4);
+    note(seen, "another kind, and its body cut off", fault == Fault::Kind && is_cut);
     note(seen, "bytes after the finish, fewer than 4", fault == Fault::After && left.len() < 4);
-    note(seen, "bytes after the finish, 4 or more", fault == Fault::After && left.len() >= 4);
+    let after = fault == Fault::After && left.len() >= 4;
+    note(seen, "a record after the finish of a kind that is known", after && (Some(48)..=Some(50)).contains(&kind));
+    note(seen, "a record after the finish of a kind that is not", after && !(Some(48)..=Some(50)).contains(&kind));
+    note(seen, "a record after the finish, and its body cut off", after && is_cut);
 }
 
 /// Of a lift that no layer gives, on top of so many.
