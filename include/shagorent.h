@@ -54,8 +54,8 @@ extern "C" {
 #define SHAGORENT_NONE UINT64_MAX         /* in an error sheet or a list: there is no such sequence */
 
 /* Refusals: the number, and what its place is. 16, 19, 20 and 21 are faults of a job, table or order file; their place is the first byte of the
- * record at fault, and for bytes after the end record the first of them. 16 asks for the rest of the file: it is not given where the file goes on
- * well. The other three stay, whatever bytes follow; 19 and 20 may be a file of a newer kind, 21 is a damaged one. */
+ * record at fault, and for bytes after the end record the first of them. With 16 the file is cut off: ask for the rest of it. The other three stay,
+ * whatever bytes follow: with 19 it may be a file of a newer kind, ask for the newer reader; with 20 and 21 it is damaged. */
 #define SHAGORENT_DONE 0u
 #define SHAGORENT_HEIGHT 1u          /* height outside 1 to 512; 0 */
 #define SHAGORENT_NO_THICKNESS 2u    /* no thickness allowed; 0 */
