@@ -257,7 +257,7 @@ impl Cursor {
         let columns = quad(input, self.at + 4);
         let head = state.head;
         if columns != head.columns {
-            return self.faulted(state, Fault::UNEQUAL);
+            return self.faulted(state, Fault::DISAGREES);
         }
         self.passed(input, Read::End(columns), state.finish())
     }

@@ -315,13 +315,13 @@ fn check_lift(s: Settings, step: u32, cure: &[u16], file: &[u8], read: Stack) ->
     let at = 16 * read.layers;
     let found = lift_by(s, step, cure, read.rise, quad(file, at + 4));
     if found == s.tmax {
-        return Layer::Refused(refusal_at(Fault::UNEQUAL, at));
+        return Layer::Refused(refusal_at(Fault::DISAGREES, at));
     }
     if read.layers == 0 {
         return Layer::Thick(found + 1);
     }
     if s.height + read.first <= read.rise + 1 {
-        return Layer::Refused(refusal_at(Fault::UNEQUAL, at));
+        return Layer::Refused(refusal_at(Fault::DISAGREES, at));
     }
     Layer::Thick(found + 1)
 }
@@ -339,7 +339,7 @@ fn check_cure(step: u32, cure: &[u16], file: &[u8], read: Stack, t: usize) -> Ch
         return Checked::Refused(refusal);
     }
     if quad(file, at + 4) != cure_bits(read.rise + t, t, step, entry_of(cure, t)) {
-        return Checked::Refused(refusal_at(Fault::UNEQUAL, at));
+        return Checked::Refused(refusal_at(Fault::DISAGREES, at));
     }
     Checked::Passed
 }
@@ -402,10 +402,10 @@ fn check_finish(s: Settings, file: &[u8], read: Stack) -> Checked
 {
     let at = 16 * read.layers;
     if word(file, at + 4) as usize != read.layers {
-        return Checked::Refused(refusal_at(Fault::UNEQUAL, at));
+        return Checked::Refused(refusal_at(Fault::DISAGREES, at));
     }
     if read.rise < s.height {
-        return Checked::Refused(refusal_at(Fault::UNEQUAL, at));
+        return Checked::Refused(refusal_at(Fault::DISAGREES, at));
     }
     check_tail(file, at + 6)
 }

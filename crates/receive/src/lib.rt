@@ -143,10 +143,10 @@ fn check_row(file: &[u8], limits: &[u32; 32], s: Settings, row: usize, at: usize
     ensures { λ r. ⌜ saidBy r ≡ first (rowChecks (now (file .entry)) (headIn (now (file .entry))) (s .rows - row) row) ⌝ }
 {
     if s.rows <= row {
-        return Checked::Refused(refusal_at(Fault::UNEQUAL, at));
+        return Checked::Refused(refusal_at(Fault::DISAGREES, at));
     }
     if word(file, at + 4) != start_bits(s.tmax, row) {
-        return Checked::Refused(refusal_at(Fault::UNEQUAL, at));
+        return Checked::Refused(refusal_at(Fault::DISAGREES, at));
     }
     check_cells(file, limits, at, s.tmax)
 }
@@ -158,10 +158,10 @@ fn check_end(file: &[u8], s: Settings, row: usize, at: usize) -> Checked
     ensures { λ r. ⌜ saidBy r ≡ first (endChecks (now (file .entry)) (headIn (now (file .entry))) (s .rows - row) row) ⌝ }
 {
     if row != s.rows {
-        return Checked::Refused(refusal_at(Fault::UNEQUAL, at));
+        return Checked::Refused(refusal_at(Fault::DISAGREES, at));
     }
     if word(file, at + 4) as usize != s.rows {
-        return Checked::Refused(refusal_at(Fault::UNEQUAL, at));
+        return Checked::Refused(refusal_at(Fault::DISAGREES, at));
     }
     check_tail(file, at + 6)
 }

@@ -28,7 +28,7 @@ impl Fault {
 
     pub const BODY_CUT: Reason = Reason::RanOut;
 
-    pub const UNEQUAL: Reason = Reason::Disagrees;
+    pub const DISAGREES: Reason = Reason::Disagrees;
 
     pub const TAIL: Reason = Reason::Disagrees;
 }
