@@ -1,6 +1,6 @@
 // The list of cases, a line each: a label, a colon, numbers, a semicolon, and the bytes of the input. A label that begins with `f` is that of
-// a file, with `w` that of a file for a table which is long enough, any other that of a record. The numbers are decimal, with a comma between them; the bytes are hexadecimal. Words among the numbers
-// and spaces are for the reader.
+// a file, with `w` that of a file for a table which is long enough, any other that of a record. The numbers are decimal, with a comma between
+// them; the bytes are hexadecimal. Words among the numbers and spaces are for the reader.
 use crate::files;
 use crate::records;
 use crate::show;
