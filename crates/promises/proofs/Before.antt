@@ -228,6 +228,7 @@ module _ (N T step : ℕ) (cures file : List ℕ) where
 pub as-before : AsBefore
 as-before = record {
   read-record = λ s st at. ap (λ (m : Moved). m .told) (read-before s st at);
+  read-on = λ s st at. (ap (λ (m : Moved). m .next) (read-before s st at), ap (λ (m : Moved). m .state) (read-before s st at));
   job-file = job-before;
   read-file = λ most s lent. load-before lent (jobOf most s) ∙ ap (loadAnswer lent) (job-before most s);
   table-file = table-file-before;

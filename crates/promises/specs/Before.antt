@@ -159,6 +159,8 @@ module _ (N T step : ℕ) (cures file : List ℕ) where
 -- 'the new answer with 19, 20, 21 read as 16 is the old answer, place and all'
 pub record AsBefore : Type 0 where
   pub read-record : (s : List ℕ) (st : State) (at : ℕ) → collapse (readRecord s st at .told) ≡ oldRead s st at .told
+  -- and the reader goes on from the same place, in the same state
+  pub read-on : (s : List ℕ) (st : State) (at : ℕ) → (readRecord s st at .next ≡ oldRead s st at .next) × (readRecord s st at .state ≡ oldRead s st at .state)
   pub job-file : (most : ℕ) (s : List ℕ) → collapse (jobOf most s) ≡ oldJob most s
   -- and as it is read into a lent table
   pub read-file : (most : ℕ) (s lent : List ℕ) → collapse (loadAnswer lent (jobOf most s)) ≡ loadAnswer lent (oldJob most s)
