@@ -76,6 +76,12 @@ def ask_same(name, number, told, found):
         sys.exit(f"tools/vectors/{name}.txt, case {number}, line {number + 1}: the vector has {told}, document01.py answers {found}")
 
 
+def left_out(older, later):
+    """The cases of older vectors that later ones don't have, by what is given: what stands between a case's number and its answer."""
+    given_later = {case[1:-1] for case in later}
+    return [case for case in older if case[1:-1] not in given_later]
+
+
 # ---- laid down
 
 
