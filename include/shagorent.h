@@ -56,7 +56,7 @@ extern "C" {
 /* Refusals: the number, and what its place is. 16, 19, 20 and 21 are faults of a job, table or order file; their place is the first byte of the
  * record at fault, and for bytes after the end record the first of them. With 16 the file is cut off: ask for the rest of it. The other three stay,
  * whatever bytes follow: with 19 it may be a file of a newer kind, ask for the newer reader; with 20 it is damaged; with 21 it says one thing and
- * holds another, as orders do that were written for another step: ask whoever made it. */
+ * holds another, as orders may that were written for another step: ask whoever made it. */
 #define SHAGORENT_DONE 0u
 #define SHAGORENT_HEIGHT 1u          /* height outside 1 to 512; 0 */
 #define SHAGORENT_NO_THICKNESS 2u    /* no thickness allowed; 0 */
