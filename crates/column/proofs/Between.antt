@@ -16,6 +16,7 @@ use lib.Signed.{leZ, ltZ, ltZ-yes}
 use borrow.Author.Tests.{ltb-true, ltb-false, leb-true, leb-false, le-leb, lt-leb, lt-ltb}
 use Rattle.paper.specs.Layer.{Column, IsColumn, atOrBelow, insideCount, share, Between}
 use Rattle.paper.specs.Table.{natural}
+use Rattle.paper.proofs.Pictures.{inside-most}
 use Rattle.plate.proofs.Datum.{leb-same}
 use Rattle.column.proofs.Shares.{bit, odd}
 
@@ -149,10 +150,6 @@ module _ (z : ℤ) where
       let v = one-more bs i k (λ j m. r (suc j) (omega arith)) (omega arith) e in
       omega arith
 
-  most : (bs : List ℕ) (t : ℕ) → insideCount bs z t ≤ t
-  most bs zero = omega arith
-  most bs (suc t) = omega (arith, most bs t, more bs t)
-
   -- a layer counts each of its voxels as what it is
   counted : (bs : List ℕ) (t k : ℕ) → k < t
       → (below bs k % 2 ≤ insideCount bs z t) × (insideCount bs z t < t + below bs k % 2)
@@ -161,7 +158,7 @@ module _ (z : ℤ) where
     where
       go : Dec (k ≡ t) → (k < t → (below bs k % 2 ≤ insideCount bs z t) × (insideCount bs z t < t + below bs k % 2))
           → (below bs k % 2 ≤ insideCount bs z (suc t)) × (insideCount bs z (suc t) < suc t + below bs k % 2)
-      go (yes e) ih = let f = ap (below bs) e in let m = most bs t in let n = more bs t in (omega arith, omega arith)
+      go (yes e) ih = let f = ap (below bs) e in let m = inside-most bs z t in let n = more bs t in (omega arith, omega arith)
       go (no e) ih = let y = ih (omega arith) in let n = more bs t in (omega arith, omega arith)
 
   from : (bs : List ℕ) (t : ℕ) → Rising bs → Between bs z t → 0 < share bs z t

@@ -7,11 +7,12 @@ use mathlib.Core.List.{List, [], _∷_}
 use native.Mathlib.Omega.{arith}
 use lib.IntN.{ℤ}
 use Rattle.lists.specs.Best.{bestOf}
-use Rattle.paper.specs.Layer.{Column, columnOf, allowed, leastAbove, tmin, greatestTo, tmax, insideCount, share}
+use Rattle.paper.specs.Layer.{Column, columnOf, allowed, leastAbove, tmin, greatestTo, tmax, insideCount}
 use Rattle.paper.specs.Table.{rows, cells, startAt, thicknessAt, cellOf}
 use Rattle.paper.specs.Sequence.{error, M}
 use Rattle.paper.specs.Facts as fact
 use Rattle.paper.specs.Facts.{A, B, both, free, plate, Holds, All, facts}
+use Rattle.paper.proofs.Differences.{difference-empty}
 use Rattle.sequence.specs.Rules.{shape}
 use Rattle.sequence.specs.Sequence.{starts}
 use Rattle.sequence.specs.Least.{bestTo, least, last, walk, top, chosen}
@@ -23,8 +24,8 @@ nothing-inside : (z : ℤ) (t : ℕ) → insideCount [] z t ≡ 0
 nothing-inside z zero = refl
 nothing-inside z (suc t) = let e = nothing-inside z t in omega arith
 
-no-share : (z : ℤ) (t : ℕ) → share [] z t ≡ 0
-no-share z t = let e = nothing-inside z t in omega arith
+no-share : Holds fact.empty
+no-share z t = let e = nothing-inside z t in (omega arith, difference-empty [] z t e)
 
 -- what computes is the chosen one, with its error; or there is none
 is : (columns : List Column) (bound n e : ℕ) (zs : List ℤ) → found (plate columns) bound (suc n) ≡ some zs → error (plate columns) zs ≡ e
@@ -47,8 +48,8 @@ facts-hold =
     and (omega arith, refl, refl, refl)
     and (omega arith, refl, refl, refl)
     -- P4 to P6
-    and (refl, refl)
-    and (refl, refl)
+    and (refl, refl, refl)
+    and (refl, refl, refl)
     and no-share
     -- P7 to P9
     and is both free 1 _ _ refl refl

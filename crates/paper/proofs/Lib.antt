@@ -4,3 +4,4 @@ pub mod Stacks
 pub mod Shares
 pub mod Pictures
 pub mod Outside
+pub mod Differences

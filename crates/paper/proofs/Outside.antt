@@ -1,16 +1,18 @@
 -- 'Voxel z is inside exactly if an odd number of boundaries are at or below z; all others, also below 0 and from N up, are outside.' Below 0 no
--- boundary is at or below the voxel; from N up all of them are, and they are an even number. Assumes nothing.
-use Prim.Native.Nat.{ℕ, suc, _%_, _≤_, _<_}
-use mathlib.Core.Path.{_≡_, refl, ap, _∙_}
-use mathlib.Core.Bool.{false}
+-- boundary is at or below the voxel; from N up all of them are, and they are an even number. So a layer that ends at 0 or below, or starts at N or above,
+-- has no inside voxel. Assumes nothing.
+use Prim.Native.Nat.{ℕ, zero, suc, _+_, _-_, _%_, _≤_, _<_}
+use mathlib.Core.Path.{_≡_, refl, ap, ap₂, _∙_}
+use mathlib.Core.Bool.{Bool, false, cond}
 use mathlib.Core.List.{List, [], _∷_}
 use native.Mathlib.Omega.{arith}
-use borrow.Author.Tests.{le-leb, ne-eqb}
-use lib.Dec.{eqb, ltb→lt, leb→le}
-use lib.IntN.{ℤ, pos, negsuc}
+use native.Mathlib.Decide.{decLt}
+use borrow.Author.Tests.{le-leb, ne-eqb, lt-ltb, le-ltb}
+use lib.Dec.{T, eqb, ltb→lt, leb→le, le→leb}
+use lib.IntN.{ℤ, pos, negsuc, _+ℤ_}
 use lib.ListN.{length, getD}
-use lib.Signed.{_≤ℤ_, _<ℤ_}
-use Rattle.paper.specs.Layer.{Column, IsColumn, atOrBelow, inside}
+use lib.Signed.{leZ, _≤ℤ_, _<ℤ_, leZ-yes, ltZ-yes}
+use Rattle.paper.specs.Layer.{Column, IsColumn, atOrBelow, inside, insideCount}
 
 none-below : (bs : List ℕ) (n : ℕ) → atOrBelow bs (negsuc n) ≡ 0
 none-below [] n = refl
@@ -35,3 +37,31 @@ outside-above N column c (pos z) l =
     let o : length (column .boundaries) % 2 ≡ 1 → ⊥ = (λ q. omega (arith, c .even)) in
     ap (λ k. eqb (k % 2) 1) e ∙ ne-eqb (length (column .boundaries) % 2) 1 o
 outside-above N column c (negsuc z) l = absurd (l .le)
+
+-- ---- layers
+
+no-voxel : (bs : List ℕ) (z : ℤ) (t : ℕ) → ((k : ℕ) → k < t → inside bs (z +ℤ pos k) ≡ false) → insideCount bs z t ≡ 0
+no-voxel bs z zero f = refl
+no-voxel bs z (suc t) f = ap₂ (λ (n : ℕ) (b : Bool). n + cond b 1 0) (no-voxel bs z t (λ k l. f k (omega arith))) (f t (omega arith))
+
+ends-low : (z : ℤ) (k t : ℕ) → k < t → (z +ℤ pos t) ≤ℤ pos 0 → (z +ℤ pos k) <ℤ pos 0
+ends-low (pos n) k t l e = absurd (let u = leb→le (n + t) 0 (e .le) in omega arith)
+ends-low (negsuc n) k t l e = go (decLt k (suc n))
+  where
+    go : Dec (k < suc n) → (negsuc n +ℤ pos k) <ℤ pos 0
+    go (yes m) = rw (lt-ltb k (suc n) m) (ltZ-yes tt)
+    go (no m) = absurd (ends-high (e .le))
+      where
+        ends-high : T (leZ (negsuc n +ℤ pos t) (pos 0)) → ⊥
+        ends-high = rw (le-ltb t (suc n) (omega arith)) (λ u. omega (arith, leb→le (t - suc n) 0 u))
+
+-- wholly under the plate
+pub layer-below : (bs : List ℕ) (z : ℤ) (t : ℕ) → (z +ℤ pos t) ≤ℤ pos 0 → insideCount bs z t ≡ 0
+layer-below bs z t e = no-voxel bs z t (λ k l. outside-below bs (z +ℤ pos k) (ends-low z k t l e))
+
+-- wholly over it
+pub layer-above : (N : ℕ) (column : Column) → IsColumn N column → (z : ℤ) (t : ℕ) → pos N ≤ℤ z → insideCount (column .boundaries) z t ≡ 0
+layer-above N column c (pos z) t l =
+    let low = leb→le N z (l .le) in
+    no-voxel (column .boundaries) (pos z) t (λ k m. outside-above N column c (pos (z + k)) (leZ-yes (le→leb N (z + k) (omega arith))))
+layer-above N column c (negsuc z) t l = absurd (l .le)

@@ -24,6 +24,10 @@ all-filled : (bs : List ℕ) (z : ℤ) (t : ℕ) → wrong true bs z t + insideC
 all-filled bs z zero = refl
 all-filled bs z (suc t) = omega (arith, all-filled bs z t, either (inside bs (z +ℤ pos t)))
 
+-- of a layer's voxels no more are inside than there are
+pub inside-most : (bs : List ℕ) (z : ℤ) (t : ℕ) → insideCount bs z t ≤ t
+inside-most bs z t = let a = all-filled bs z t in omega arith
+
 -- no picture has fewer than the share
 pub share-fewest : (fills : Bool) (bs : List ℕ) (z : ℤ) (t : ℕ) → share bs z t ≤ wrong fills bs z t
 share-fewest true bs z t = let a = all-filled bs z t in omega arith

@@ -7,7 +7,7 @@ use mathlib.Core.List.{List, [], _∷_}
 use lib.IntN.{ℤ, pos, negℤ}
 use lib.Ieee.{Float}
 use Rattle.paper.specs.Limits.{largestBound}
-use Rattle.paper.specs.Layer.{Plate, Column, columnOf, ofColumns, share, filled, shares}
+use Rattle.paper.specs.Layer.{Plate, Column, columnOf, ofColumns, share, filled, difference, shares}
 use Rattle.paper.specs.Table.{cells, startAt, thicknessAt, cellOf}
 use Rattle.paper.specs.Sequence.{error, M, Chosen, None}
 use Rattle.paper.specs.Motor.{Times, MotorHeight}
@@ -34,8 +34,8 @@ minus n = negℤ (pos n)
 pub data Fact : Type 0 where
   -- the index of a cell: its start, its thickness, and what it holds
   cell : ℕ → ℤ → ℕ → ℕ → Fact
-  -- the picture of a column in a layer, and its share
-  picture : List ℕ → ℤ → ℕ → Bool → ℕ → Fact
+  -- the picture of a column in a layer, its share and its difference
+  picture : List ℕ → ℤ → ℕ → Bool → ℕ → ℤ → Fact
   -- a column of no boundaries
   empty : Fact
   -- columns, bound, count: the error and the boundaries of the chosen sequence; or none
@@ -48,8 +48,8 @@ pub data Fact : Type 0 where
 
 abbrev pub Holds : Fact → Type 0
 Holds (cell i z t e) = (i < cells 4 6) × (startAt 6 i ≡ z) × (thicknessAt 6 i ≡ t) × (cellOf 6 (shares both) i ≡ e)
-Holds (picture bs z t f s) = (filled bs z t ≡ f) × (share bs z t ≡ s)
-Holds empty = (z : ℤ) (t : ℕ) → share [] z t ≡ 0
+Holds (picture bs z t f s d) = (filled bs z t ≡ f) × (share bs z t ≡ s) × (difference bs z t ≡ d)
+Holds empty = (z : ℤ) (t : ℕ) → (share [] z t ≡ 0) × (difference [] z t ≡ minus t)
 Holds (plan columns bound n e zs) = Chosen (plate columns) bound n zs × (error (plate columns) zs ≡ e)
 Holds (none columns bound n) = None (plate columns) bound n
 Holds (counts m) = M 4 6 ≡ m
@@ -65,9 +65,9 @@ facts =
     cell 7 (pos 0) 2 1
     ∷ cell 5 (minus 1) 3 2
     ∷ cell 10 (pos 1) 2 0
-    -- P4 to P6
-    ∷ picture A (pos 0) 2 false 1
-    ∷ picture (1 ∷ 2 ∷ []) (pos 0) 3 false 1
+    -- P4 to P6, with document 02 g)'s differences
+    ∷ picture A (pos 0) 2 false 1 (pos 0)
+    ∷ picture (1 ∷ 2 ∷ []) (pos 0) 3 false 1 (minus 1)
     ∷ empty
     -- P7 to P9
     ∷ plan both free 2 2 (pos 0 ∷ pos 2 ∷ pos 4 ∷ [])

@@ -6,7 +6,7 @@ use mathlib.Core.Bool.{Bool, true, false, not, cond, _&&_}
 use mathlib.Core.List.{List, [], _∷_}
 use lib.Dec.{leb, ltb, eqb}
 use lib.ListN.{length, getD}
-use lib.IntN.{ℤ, pos, _+ℤ_}
+use lib.IntN.{ℤ, pos, _+ℤ_, _-ℤ_}
 use lib.Signed.{leZ, _<ℤ_}
 use Rattle.paper.specs.Limits.{leastHeight, greatestHeight, mostThickness, mostBoundaries, sets}
 
@@ -84,6 +84,10 @@ pub record Between (bs : List ℕ) (z : ℤ) (t : ℕ) : Type 0 where
 -- the picture fills the column if inside exceeds outside; a tie is left unfilled
 abbrev pub filled : List ℕ → ℤ → ℕ → Bool
 filled bs z t = ltb (outsideCount bs z t) (insideCount bs z t)
+
+-- document 02 g): by how much the column leans, 'inside minus outside'
+abbrev pub difference : List ℕ → ℤ → ℕ → ℤ
+difference bs z t = pos (insideCount bs z t) -ℤ pos (outsideCount bs z t)
 
 -- voxels wrongly filled or left out: a picture with straight walls fills a column through the whole layer or leaves it out, so a voxel is
 -- wrong where its column is filled and it is outside, or its column is left out and it is inside
