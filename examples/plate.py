@@ -7,7 +7,7 @@ import ctypes as c
 import pathlib
 import sys
 
-VERSION = 40600
+VERSION = 50000
 """Of the header that these declarations follow."""
 COLUMNS = (1, 4), (0, 3)
 TABLE_FILE_MAX = 76936

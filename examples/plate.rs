@@ -61,7 +61,7 @@ extern "C" {
 }
 
 // The version of the header that these declarations follow.
-const VERSION: u32 = 40600;
+const VERSION: u32 = 50000;
 const NO_SEQUENCE: u32 = 11;
 const TABLE_FILE_MAX: usize = 76936;
 const ORDER_FILE_MAX: usize = 8198;

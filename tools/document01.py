@@ -136,6 +136,11 @@ def is_filled(column, z, t):
     return inside_count(column, z, t) > t - inside_count(column, z, t)
 
 
+def difference(column, z, t):
+    """Inside minus outside: request g)."""
+    return sum(1 if is_inside(column, v) else -1 for v in range(z, z + t))
+
+
 # ---- Table
 
 
@@ -445,12 +450,12 @@ def recount(table, head, bound, sequence):
 
 
 def picture(column, height, members, start, thickness):
-    """Filled or not, and the share."""
+    """Filled or not, the share, and the difference."""
     plate = plate_of(height, members)
     check_column(column, height)
     refuse(13, start not in plate.starts)
     refuse(13, thickness not in plate.thicknesses, 1)
-    return is_filled(column, start, thickness), share(column, start, thickness)
+    return is_filled(column, start, thickness), share(column, start, thickness), difference(column, start, thickness)
 
 
 def check_step(step):

@@ -1,14 +1,13 @@
 -- One more boundary counted, one more voxel counted: the steps of the loops. Assumes nothing.
 use mathlib.Core.Path.{_≡_, refl}
-use mathlib.Core.Bool.{true, false}
 use mathlib.Core.List.{List}
-use Prim.Native.Nat.{ℕ, zero, suc, _+_, _-_, _%_, _≤_, _<_, min}
-use borrow.Author.Tests.{le-leb, lt-leb, lt-ltb, le-ltb}
+use Prim.Native.Nat.{ℕ, zero, suc, _+_, _%_, _≤_, _<_}
+use borrow.Author.Tests.{le-leb, lt-leb}
 use native.Mathlib.Numerals.{add-one}
 use native.Mathlib.Omega.{arith}
 use lib.ListN.{length, getD, drop, drop-of-length-le}
 use lib.Seq.{drop-cons}
-use Rattle.column.specs.Inside.{reachedBy, passed, inside, judgedOf}
+use Rattle.column.specs.Inside.{reachedBy, passed, inside}
 
 pub reached-yes : (b h : ℕ) → b + 32 ≤ h → (1 ≡ reachedBy b h) × (_≤_ 1 1)
 unfolding reachedBy
@@ -41,11 +40,3 @@ pub inside-le : (bs : List ℕ) (h t : ℕ) → inside bs h t ≤ t
 unfolding inside
 inside-le bs h zero = omega arith
 inside-le bs h (suc t) = omega (arith, inside-le bs h t)
-
-pub judged-full : (i t : ℕ) → t - i < i → record { filled = true; share = t - i } ≡ judgedOf i t
-unfolding judgedOf
-judged-full i t l = let e : min i (t - i) ≡ t - i = omega arith in rw (lt-ltb (t - i) i l, e)
-
-pub judged-empty : (i t : ℕ) → i ≤ t - i → record { filled = false; share = i } ≡ judgedOf i t
-unfolding judgedOf
-judged-empty i t l = let e : min i (t - i) ≡ i = omega arith in rw (le-ltb (t - i) i l, e)

@@ -1,17 +1,17 @@
--- The inside voxels that are counted from the datum are document 01's, so its share and its picture are what is judged. Assumes nothing.
-use Prim.Native.Nat.{ℕ, zero, suc, _+_, _%_}
+-- The inside voxels that are counted from the datum are document 01's, so what is derived from them is its picture. Assumes nothing.
+use Prim.Native.Nat.{ℕ, zero, suc, _+_, _-_, _%_, min}
 use mathlib.Core.Path.{_≡_, refl, sym, ap, ap₂, _∙_}
 use mathlib.Core.Bool.{Bool, cond}
 use mathlib.Core.List.{List, [], _∷_}
 use native.Mathlib.Omega.{arith}
 use native.Mathlib.Decide.{ℕ-discrete}
-use lib.Dec.{eqb}
-use lib.IntN.{ℤ}
+use lib.Dec.{eqb, ltb}
+use lib.IntN.{ℤ, pos, _-ℤ_}
 use borrow.Author.Tests.{eq-eqb, ne-eqb}
 use Rattle.paper.specs.Layer as paper
 use Rattle.plate.specs.Datum.{heightOf}
 use Rattle.plate.proofs.Datum.{reach-height, sum-height}
-use Rattle.column.specs.Inside.{reachedBy, passed, inside, judgedOf}
+use Rattle.column.specs.Inside.{reachedBy, passed, inside}
 use Rattle.column.specs.Picture.{judgement}
 
 abbrev pub bit : Bool → ℕ
@@ -37,7 +37,10 @@ inside-is bs h (suc t) =
     ap₂ _+_ (inside-is bs h t)
     (ap (λ (z : ℤ). bit (paper.inside bs z)) (sum-height h t) ∙ odd (paper.atOrBelow bs (heightOf (h + t))) ∙ ap (λ n. n % 2) (passed-is bs (h + t)))
 
--- what is judged of the inside voxels is document 01's picture and share
-pub judged-is : (bs : List ℕ) (h t i : ℕ) → i ≡ inside bs h t → judgedOf i t ≡ judgement bs (heightOf h) t
-unfolding judgedOf
-judged-is bs h t i e = let q : i ≡ paper.insideCount bs (heightOf h) t = e ∙ sym (inside-is bs h t) in rw q
+-- what is derived from the inside voxels is the picture
+pub derived : (bs : List ℕ) (z : ℤ) (t i : ℕ) → i ≡ paper.insideCount bs z t → {filled : Bool} {share : ℕ} {difference : ℤ}
+    → filled ≡ ltb (t - i) i → share ≡ min i (t - i) → difference ≡ pos i -ℤ pos (t - i)
+    → record { filled = filled; share = share; difference = difference } ≡ judgement bs z t
+derived bs z t i e f s d =
+    (λ k. record { filled = f k; share = s k; difference = d k })
+    ∙ ap (λ (n : ℕ). record { filled = ltb (t - n) n; share = min n (t - n); difference = pos n -ℤ pos (t - n) }) e

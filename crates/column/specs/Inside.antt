@@ -1,9 +1,8 @@
 -- One column in one layer, over heights counted from the datum: h stands for z = h - 32. Assumes nothing.
-use Prim.Native.Nat.{ℕ, zero, suc, _+_, _-_, _%_, min}
+use Prim.Native.Nat.{ℕ, zero, suc, _+_, _%_}
 use mathlib.Core.Bool.{cond}
 use mathlib.Core.List.{List, [], _∷_}
-use lib.Dec.{leb, ltb}
-use Rattle.column.specs.declared.Judged.{Judged}
+use lib.Dec.{leb}
 
 -- 1 where the boundary b is at or below the voxel h, else 0
 unfoldable pub reachedBy : ℕ → ℕ → ℕ
@@ -18,7 +17,3 @@ passed (b ∷ bs) h = reachedBy b h + passed bs h
 unfoldable pub inside : List ℕ → ℕ → ℕ → ℕ
 inside bs h zero = 0
 inside bs h (suc t) = inside bs h t + passed bs (h + t) % 2
-
--- the picture and the share of t voxels of which i are inside
-unfoldable pub judgedOf : ℕ → ℕ → Judged
-judgedOf i t = record { filled = ltb (t - i) i; share = min i (t - i) }

@@ -1,15 +1,18 @@
 // A column: its order, and one column in one layer.
 ghost use mathlib.Core.Bool.{false};
 ghost use mathlib.Core.Path.{_≡_};
-ghost use Prim.Native.Nat.{ℕ, _+_, _%_, _<_, _≤_};
+ghost use Prim.Native.Nat.{ℕ, _+_, _-_, _%_, _<_, _≤_, min};
+ghost use lib.Dec.{ltb};
+ghost use lib.IntN.{pos, _-ℤ_};
 ghost use lib.ListN.{length};
 ghost use Rattle.lists.specs.Checks.{first};
+ghost use Rattle.paper.specs.Layer.{insideCount};
 ghost use Rattle.plate.specs.Checked.{saidBy};
 ghost use Rattle.plate.specs.Refusal.{decided};
 ghost use Rattle.plate.specs.Settings.{Sound};
 ghost use Rattle.plate.specs.Datum.{heightOf};
 ghost use Rattle.column.specs.Order.{misplaced, firstMisplaced, wrongCount, columnChecks};
-ghost use Rattle.column.specs.Inside.{reachedBy, passed, inside, judgedOf};
+ghost use Rattle.column.specs.Inside.{reachedBy, passed, inside};
 ghost use Rattle.column.specs.Picture.{layerChecks, judgement, toldPicture, pictureAnswer};
 ghost use mathlib.Core.List.{_++_};
 use plate::height::datum_of;
@@ -28,10 +31,11 @@ impl Column {
     pub const MOST_BOUNDARIES: usize = 64;
 }
 
-// One column in one layer: whether the picture fills it, and its share.
+// One column in one layer: whether the picture fills it, its share, and by how much it leans: inside voxels less outside ones, -32 to 32.
 pub struct Judged {
     pub filled: bool,
     pub share: u32,
+    pub difference: i32,
 }
 
 pub enum Pictured {
@@ -160,31 +164,37 @@ fn inside_of(column: &[u16], start: u32, thickness: u32) -> u32
     n
 }
 
-// The picture and the share of t voxels of which i are inside; a tie is left unfilled.
-fn verdict(i: u32, t: u32) -> Judged
-    requires { ⌜ i ≤ t ⌝ }
-    ensures { λ r. ⌜ r ≡ judgedOf i t ⌝ }
+// One column in the layer from the datum height start: its inside voxels. Whether it is filled, its share and its difference are derived from them.
+pub fn judge(column: &[u16], start: u16, thickness: u16) -> u32
+    ensures { λ r. ⌜ (r ≡ insideCount (now (column .entry)) (heightOf start) thickness) × (r ≤ thickness) ⌝ }
 {
-    let o = t - i;
-    if o < i {
-        Judged {
-            filled: true,
-            share: o,
-        }
-    } else {
-        Judged {
-            filled: false,
-            share: i,
-        }
-    }
+    inside_of(column, wide(start), wide(thickness))
 }
 
-// One column in the layer from the datum height start.
-pub fn judge(column: &[u16], start: u16, thickness: u16) -> Judged
-    ensures { λ r. ⌜ (r ≡ judgement (now (column .entry)) (heightOf start) thickness) × (r .share ≤ thickness) ⌝ }
+// Whether the picture fills t voxels of which so many are inside; a tie is left unfilled.
+fn fills(inside: u32, t: u32) -> bool
+    requires { ⌜ inside ≤ t ⌝ }
+    ensures { λ r. ⌜ r ≡ ltb (t - inside) inside ⌝ }
 {
-    let t = wide(thickness);
-    verdict(inside_of(column, wide(start), t), t)
+    t - inside < inside
+}
+
+// The share of t voxels of which so many are inside.
+fn share_of(inside: u32, t: u32) -> u32
+    requires { ⌜ inside ≤ t ⌝ }
+    ensures { λ r. ⌜ r ≡ min inside (t - inside) ⌝ }
+{
+    let outside = t - inside;
+    if outside < inside { outside } else { inside }
+}
+
+// By how much t voxels of which so many are inside lean.
+fn difference_of(inside: u32, t: u32) -> i32
+    requires { ⌜ (inside ≤ t) × (t ≤ 32) ⌝ }
+    ensures { λ r. ⌜ r ≡ pos inside -ℤ pos (t - inside) ⌝ }
+{
+    let outside = t - inside;
+    inside as i32 - outside as i32
 }
 
 // Where the settings are in order: 4, 5, 13.
@@ -203,14 +213,18 @@ fn picture_of(column: &[u16], s: Settings, start: i32, thickness: u32) -> Pictur
     if s.height + s.tmax + 30 < h {
         return Pictured::Refused(refusal_at(Reason::NotAdmissible, 0));
     }
-    let t = thickness as usize;
-    if is_allowed(s.members, t) {
-        return Pictured::Done(judge(column, h as u16, thickness as u16));
+    if !is_allowed(s.members, thickness as usize) {
+        return Pictured::Refused(refusal_at(Reason::NotAdmissible, 1));
     }
-    Pictured::Refused(refusal_at(Reason::NotAdmissible, 1))
+    let inside = judge(column, h as u16, thickness as u16);
+    Pictured::Done(Judged {
+        filled: fills(inside, thickness),
+        share: share_of(inside, thickness),
+        difference: difference_of(inside, thickness),
+    })
 }
 
-// Document 01, 'Picture of a column in a layer': 1, 2, 4, 5, 13.
+// Document 01, 'Picture of a column in a layer', with document 02 g)'s difference: 1, 2, 4, 5, 13.
 pub fn picture(column: &[u16], height: u32, members: u32, start: i32, thickness: u32) -> Pictured
     ensures { λ r. ⌜ toldPicture r ≡ pictureAnswer height members (now (column .entry)) start thickness ⌝ }
 {

@@ -3,6 +3,10 @@ use mathlib.Core.Path.{_≡_, sym, ap, _∙_}
 use mathlib.Core.Bool.{Bool, cond}
 use Prim.Native.Nat.{ℕ}
 use lib.Ieee.{Float, binary32, ofBits}
+use lib.IntN.{pos}
+use mir.Syntax.{w32}
+use mir.Val.{SFits, toZ, ofZ}
+use mir.ValLaws.{toZ-ofZ}
 use Rattle.plate.specs.Refusal.{numberOf, Told, done, told}
 use Rattle.plate.specs.declared.refusal.Answer.{Answer}
 use Rattle.plate.specs.declared.refusal.Answer.the-variants as answer
@@ -34,8 +38,8 @@ module _ (n : ℕ) (r : Refusal) (e : n ≡ numberOf (r .reason)) where
   pub table-refused : (head : Head) → head ≡ noHead → (a : Tabled) → a ≡ tabled.Refused r → record { number = n; head = head; place = r .place } ≡ tableReply (toldTable a)
   table-refused head h a f = (λ i. record { number = e i; head = h i; place = r .place }) ∙ sym (ap (λ (x : Tabled). tableReply (toldTable x)) f)
 
-  pub picture-refused : (a : Pictured) → a ≡ pictured.Refused r → record { number = n; filled = 0; value = r .place } ≡ pictureReply (toldPicture a)
-  picture-refused a f = ap (λ (m : ℕ). record { number = m; filled = 0; value = r .place }) e ∙ sym (ap (λ (x : Pictured). pictureReply (toldPicture x)) f)
+  pub picture-refused : (a : Pictured) → a ≡ pictured.Refused r → record { number = n; filled = 0; value = r .place; difference = pos 0 } ≡ pictureReply (toldPicture a)
+  picture-refused a f = ap (λ (m : ℕ). record { number = m; filled = 0; value = r .place; difference = pos 0 }) e ∙ sym (ap (λ (x : Pictured). pictureReply (toldPicture x)) f)
 
   pub height-refused : (a : Lifted) → a ≡ lifted.Refused r → record { number = n; height = ofBits binary32 0; place = r .place } ≡ heightReply (toldLifted a)
   height-refused a f = ap (λ (m : ℕ). record { number = m; height = ofBits binary32 0; place = r .place }) e ∙ sym (ap (λ (x : Lifted). heightReply (toldLifted x)) f)
@@ -53,8 +57,12 @@ reply-done x a f = sym (ap (λ (y : Answer). reply (told y)) f)
 pub table-done : (head : Head) (a : Tabled) → a ≡ tabled.Done head → record { number = 0; head = head; place = 0 } ≡ tableReply (toldTable a)
 table-done head a f = sym (ap (λ (y : Tabled). tableReply (toldTable y)) f)
 
-pub picture-done : (j : Judged) (a : Pictured) → a ≡ pictured.Done j → (b : Bool) → j .filled ≡ b → record { number = 0; filled = cond b 1 0; value = j .share } ≡ pictureReply (toldPicture a)
-picture-done j a f b e = sym (ap (λ (y : Pictured). pictureReply (toldPicture y)) f ∙ ap (λ (x : Bool). record { number = 0; filled = cond x 1 0; value = j .share }) e)
+-- the difference is what the machine reads back from its bits
+pub picture-done : (j : Judged) (a : Pictured) → a ≡ pictured.Done j → (b : Bool) → j .filled ≡ b → SFits w32 (j .difference)
+    → record { number = 0; filled = cond b 1 0; value = j .share; difference = toZ w32 (ofZ w32 (j .difference)) } ≡ pictureReply (toldPicture a)
+picture-done j a f b e s =
+    sym (ap (λ (y : Pictured). pictureReply (toldPicture y)) f
+    ∙ (λ i. record { number = 0; filled = cond (e i) 1 0; value = j .share; difference = sym (toZ-ofZ w32 (j .difference) s) i }))
 
 pub height-done : (x : Float) (a : Lifted) → a ≡ lifted.Done x → record { number = 0; height = x; place = 0 } ≡ heightReply (toldLifted a)
 height-done x a f = sym (ap (λ (y : Lifted). heightReply (toldLifted y)) f)

@@ -4,6 +4,7 @@ use Prim.Native.Nat.{ℕ}
 use mathlib.Core.Path.{_≡_}
 use mathlib.Core.Bool.{cond}
 use lib.Ieee.{Float, binary32, ofBits}
+use lib.IntN.{pos}
 use Rattle.plate.specs.Refusal.{Told, done, refused}
 use Rattle.column.specs.declared.Judged.{Judged}
 use Rattle.plate.specs.Call.{Call, answerOf, leftBy}
@@ -38,8 +39,8 @@ tableReply (done head) = record { number = 0; head = head; place = 0 }
 tableReply (refused number place) = record { number = number; head = noHead; place = place }
 
 abbrev pub pictureReply : Told Judged → PictureReply
-pictureReply (done j) = record { number = 0; filled = cond (j .filled) 1 0; value = j .share }
-pictureReply (refused number place) = record { number = number; filled = 0; value = place }
+pictureReply (done j) = record { number = 0; filled = cond (j .filled) 1 0; value = j .share; difference = j .difference }
+pictureReply (refused number place) = record { number = number; filled = 0; value = place; difference = pos 0 }
 
 abbrev pub heightReply : Told Float → HeightReply
 heightReply (done x) = record { number = 0; height = x; place = 0 }

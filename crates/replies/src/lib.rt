@@ -34,12 +34,13 @@ pub struct TableReply {
     pub place: u64,
 }
 
-// Whether the picture fills the column, and the share; or a refusal's number and its place.
+// Whether the picture fills the column, its share and its difference; or a refusal's number and its place.
 #[repr(C)]
 pub struct PictureReply {
     pub number: u32,
     pub filled: u32,
     pub value: u64,
+    pub difference: i32,
 }
 
 // The height in micrometres, or a refusal.
@@ -124,17 +125,20 @@ pub fn picture_reply(pictured: Pictured) -> PictureReply
         Pictured::Done(judged) => {
             let filled = judged.filled;
             let value = judged.share as u64;
+            let difference = judged.difference;
             if filled {
                 return PictureReply {
                     number: 0,
                     filled: 1,
                     value,
+                    difference,
                 };
             }
             PictureReply {
                 number: 0,
                 filled: 0,
                 value,
+                difference,
             }
         }
         Pictured::Refused(refusal) => {
@@ -143,6 +147,7 @@ pub fn picture_reply(pictured: Pictured) -> PictureReply
                 number: reason.number(),
                 filled: 0,
                 value: refusal.place,
+                difference: 0,
             }
         }
     }

@@ -3,10 +3,10 @@ use Prim.Native.Nat.{ℕ, _+_, _*_}
 
 -- another major version: a struct or a call's parameters are others; another minor one: there is more, or a rule is another; another patch: neither
 abbrev pub major : ℕ
-major = 4
+major = 5
 
 abbrev pub minor : ℕ
-minor = 6
+minor = 0
 
 abbrev pub patch : ℕ
 patch = 0

@@ -63,7 +63,7 @@ use table::clear_table;
 pub extern "C" fn shagorent_version() -> u32
     ensures { λ r. ⌜ r ≡ version ⌝ }
 {
-    40600
+    50000
 }
 
 // ---- tables, plans, pictures, motors, jobs, table files and order files

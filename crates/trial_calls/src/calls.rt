@@ -188,13 +188,15 @@ pub(crate) fn recount(line: &[u8], table: &[u32]) {
     show::end();
 }
 
-fn show_picture(filled: bool, share: u32) {
+fn show_picture(filled: bool, share: u32, difference: i32) {
     if filled {
         show::text(b" filled");
     } else {
         show::text(b" unfilled");
     }
     show::next32(share);
+    show::text(b", difference");
+    show::signed(difference);
 }
 
 fn pictured(given: [u64; 12], column: &[u16]) {
@@ -206,7 +208,7 @@ fn pictured(given: [u64; 12], column: &[u16]) {
         in32(given[3]),
     ) {
         Pictured::Refused(refusal) => show::refused(refusal),
-        Pictured::Done(judged) => show_picture(judged.filled, judged.share),
+        Pictured::Done(judged) => show_picture(judged.filled, judged.share, judged.difference),
     }
 }
 

@@ -272,7 +272,7 @@ pub(crate) fn show_heights(buffer: &[i32], asked: u64) {
     let size = length(asked, buffer.len());
     let mut i = 0;
     while i < size {
-        show::height(buffer[i]);
+        show::signed(buffer[i]);
         i += 1;
     }
 }

@@ -40,8 +40,8 @@ pub(crate) fn element(x: u64) {
     }
 }
 
-// A height with its sign.
-pub(crate) fn height(z: i32) {
+// A whole number with its sign.
+pub(crate) fn signed(z: i32) {
     let mut shown = [b' '; 12];
     let end = put_signed(&mut shown, 1, z);
     text(part(&shown, 0, end));

@@ -1,15 +1,18 @@
 -- `picture_of` meets its contract: the column's own checks, the start against the table's, the thickness against T, and then the
--- judgement at the start's datum height, which stands for the start. Assumes nothing.
+-- picture at the start's datum height, which stands for the start. Assumes nothing.
 use mathlib.Core.Path.{_≡_, sym, ap, _∙_}
 use mathlib.Core.Bool.{true, false}
 use mathlib.Core.List.{List, _++_}
 use mathlib.Core.Option.{none}
 use Prim.Native.Nat.{ℕ, _+_, _≤_}
 use native.Mathlib.Omega.{arith}
-use borrow.Author.Needs.{needs}
+use borrow.Author.Needs.{needs, sfits-of}
+use borrow.Author.Tests.{not-true, not-false}
 use lib.IntN.{ℤ}
+use mir.Syntax.{w32}
+use mir.ValLaws.{toZ-ofZ}
 use Rattle.lists.specs.Checks.{first}
-use Rattle.paper.specs.Layer.{allowed, tmax}
+use Rattle.paper.specs.Layer.{allowed, tmax, insideCount}
 use Rattle.plate.specs.Refusal.{done, refused, refusal, decided}
 use Rattle.plate.specs.declared.refusal.Refusal.{Refusal}
 use Rattle.plate.specs.declared.refusal.Checked.the-variants.{Refused}
@@ -22,6 +25,7 @@ use Rattle.plate.proofs.Decided.{decided-passed, decided-said}
 use Rattle.column.specs.Order.{columnChecks}
 use Rattle.column.specs.Picture.{startOutside, layerChecks, judgement}
 use Rattle.column.specs.declared.Judged.{Judged}
+use Rattle.column.proofs.Shares.{derived}
 use Rattle.column.proofs.Starts.{start-low, start-high, start-in}
 use Rattle.column.proofs.picture_of.Statement.{statement}
 use Rattle.column.proofs.picture_of.Tie as tie
@@ -83,17 +87,30 @@ inside d l u =
 returns-4 : tie.Need-returns-4
 returns-4 c =
     let d = c .before .before .before .before .before .before .before in
-    let a = s d .args in
-    let z : heightOf (d .datum-of .result) ≡ a .start =
-    ap heightOf (h-is d) ∙ height-datum (a .start) (omega (arith, h-is d, s d .pre .thick)) in
-    ap done (c .judge .ensures .0 ∙ ap (λ (x : ℤ). judgement (a .column .now) x (a .thickness)) z)
-    ∙ in-order _ _ _ _ _ _ (fine d) (inside d (omega arith) (omega arith)) (sym (c .before .before .is-allowed .ensures) ∙ c .before .if3 .taken)
+    ap (λ (r : Refusal). refusal r) (c .refusal-at3 .ensures)
+    ∙ out-thickness _ _ _ _ _ _ (fine d) (inside d (omega arith) (omega arith)) (sym (c .before .before .is-allowed .ensures) ∙ not-true _ (c .before .if3 .taken))
+
+-- what was judged is of a thickness in T
+module _ (c : tie.After-judge) where
+  abbrev d : tie.After-datum-of
+  d = c .before .before .before .before .before .before .before
+
+  in-set : allowed (s d .args .s .members) (s d .args .thickness) ≡ true
+  in-set = sym (c .before .before .is-allowed .ensures) ∙ not-false _ (c .before .if3 .left)
+
+  counted : c .judge .result ≡ insideCount (s d .args .column .now) (s d .args .start) (s d .args .thickness)
+  counted =
+      let a = s d .args in
+      let z : heightOf (d .datum-of .result) ≡ a .start =
+      ap heightOf (h-is d) ∙ height-datum (a .start) (omega (arith, h-is d, s d .pre .thick)) in
+      c .judge .ensures .0 ∙ ap (λ (x : ℤ). insideCount (a .column .now) x (a .thickness)) z
 
 returns-5 : tie.Need-returns-5
 returns-5 c =
-    let d = c .before .before .before .before .before .before .before in
-    ap (λ (r : Refusal). refusal r) (c .refusal-at3 .ensures)
-    ∙ out-thickness _ _ _ _ _ _ (fine d) (inside d (omega arith) (omega arith)) (sym (c .before .before .is-allowed .ensures) ∙ c .before .if3 .left)
+    let j = c .before .before .before in
+    let difference = toZ-ofZ w32 (c .difference-of .result) (sfits-of (c .difference-of .ok)) ∙ c .difference-of .ensures in
+    ap done (derived _ _ _ _ (counted j) (c .before .before .fills .ensures) (c .before .share-of .ensures) difference)
+    ∙ in-order _ _ _ _ _ _ (fine (d j)) (inside (d j) (omega arith) (omega arith)) (in-set j)
 
 pub picture-of-spec : {M : Type 1} → statement M
 picture-of-spec =
@@ -112,9 +129,12 @@ picture-of-spec =
     (λ c κs. search needs)
     returns-3
     (λ c κs. search needs)
-    (λ c. search needs)
-    (λ c. omega (arith, allowed-to _ _ (sym (c .before .is-allowed .ensures) ∙ c .if3 .taken)))
     (λ c κs. search needs)
     returns-4
+    (λ c. search needs)
+    (λ c. omega (arith, allowed-to _ _ (sym (c .before .is-allowed .ensures) ∙ not-false _ (c .if3 .left))))
     (λ c κs. search needs)
+    (λ c κs. c .judge .ensures .1)
+    (λ c κs. c .before .judge .ensures .1)
+    (λ c κs. (c .before .before .judge .ensures .1, allowed-to _ _ (in-set (c .before .before))))
     returns-5)
