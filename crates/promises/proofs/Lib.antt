@@ -1,4 +1,5 @@
 pub mod Errors
+pub mod Shading
 pub mod Largest
 pub mod Accepted
 pub mod Tables

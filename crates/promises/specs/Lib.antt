@@ -1,5 +1,6 @@
 pub mod Runs
 pub mod Errors
+pub mod Shading
 pub mod Plans
 pub mod Recounts
 pub mod EmptyLayers
