@@ -24,6 +24,7 @@ pub struct Pictured {
     pub number: u32,
     pub filled: u32,
     pub value: u64,
+    pub difference: i32,
 }
 
 #[repr(C)]
@@ -184,8 +185,8 @@ pub fn as_tabled(answer: Answer<Head>) -> Tabled {
 
 pub fn as_pictured(answer: Answer<Picture>) -> Pictured {
     match answer {
-        Ok(p) => Pictured { number: 0, filled: u32::from(p.filled), value: u64::from(p.share) },
-        Err(r) => Pictured { number: r.number, filled: 0, value: r.place },
+        Ok(p) => Pictured { number: 0, filled: u32::from(p.filled), value: u64::from(p.share), difference: p.difference },
+        Err(r) => Pictured { number: r.number, filled: 0, value: r.place, difference: 0 },
     }
 }
 

@@ -249,6 +249,12 @@ impl Voxels {
         let inside = self.inside_of(start, thickness);
         inside > thickness - inside
     }
+
+    /// Inside minus outside.
+    fn difference(&self, start: i64, thickness: i64) -> i32 {
+        let inside = self.inside_of(start, thickness);
+        (2 * inside - thickness) as i32
+    }
 }
 
 /// How many boundaries are at or below the voxel.
@@ -260,6 +266,7 @@ fn passed(column: &[u16], z: i64) -> usize {
 pub struct Picture {
     pub filled: bool,
     pub share: u32,
+    pub difference: i32,
 }
 
 pub fn picture(height: u32, set: u32, column: &[u16], start: i32, thickness: u32) -> Answer<Picture> {
@@ -273,8 +280,11 @@ pub fn picture(height: u32, set: u32, column: &[u16], start: i32, thickness: u32
         return refuse(13, 1);
     }
     let voxels = Voxels::of(plate, column);
-    let (filled, share) = (voxels.fills(start, thickness), voxels.share(start, thickness));
-    Ok(Picture { filled, share })
+    Ok(Picture {
+        filled: voxels.fills(start, thickness),
+        share: voxels.share(start, thickness),
+        difference: voxels.difference(start, thickness),
+    })
 }
 
 // ---- Table ----

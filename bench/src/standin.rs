@@ -297,6 +297,12 @@ pub const FAULTS: &[&str] = &[
     "read order: a finish first of all is 21",
     "read order: a layer too many is 19",
     "read order: a finish below N is 19",
+    "picture: the difference is outside minus inside",
+    "picture: the difference is what is outside",
+    "picture: a difference below 0 is told as 0",
+    "picture: the difference is told without its sign",
+    "picture: the share is the greater count",
+    "picture: a refusal tells a difference",
 ];
 
 fn fault() -> usize {
@@ -791,12 +797,32 @@ unsafe extern "C" fn shagorent_picture(
     if let Ok(picture) = &mut answer {
         let tie = picture.share * 2 == thickness;
         picture.filled |= tie && is("picture: a tie is filled");
+        let outside = (thickness as i32 - picture.difference) / 2;
+        if is("picture: the difference is outside minus inside") {
+            picture.difference = -picture.difference;
+        }
+        if is("picture: the difference is what is outside") {
+            picture.difference = outside;
+        }
+        if picture.difference < 0 && is("picture: a difference below 0 is told as 0") {
+            picture.difference = 0;
+        }
+        if is("picture: the difference is told without its sign") {
+            picture.difference = picture.difference.abs();
+        }
+        if is("picture: the share is the greater count") {
+            picture.share = thickness - picture.share;
+        }
     }
     let nothing_on_it = i64::from(start) + i64::from(thickness) <= 0 || i64::from(start) >= i64::from(height);
     if answer.is_ok() && nothing_on_it && is("picture: a layer wholly under or over the plate is 13") {
         answer = Err(Refusal { number: 13, place: 0 });
     }
-    as_pictured(answer)
+    let mut pictured = as_pictured(answer);
+    if pictured.number == 13 && is("picture: a refusal tells a difference") {
+        pictured.difference = -(thickness as i32);
+    }
+    pictured
 }
 
 #[no_mangle]

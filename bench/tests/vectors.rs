@@ -118,10 +118,10 @@ fn marked_p() {
     assert_eq!(table[plate.cell(0, 2)], 1);
     assert_eq!(table[plate.cell(-1, 3)], 2);
     assert_eq!(table[plate.cell(1, 2)], 0);
-    let unfilled = |share| Ok(Picture { filled: false, share });
-    assert_eq!(picture(4, 6, A, 0, 2), unfilled(1));
-    assert_eq!(picture(4, 6, &[1, 2], 0, 3), unfilled(1));
-    assert_eq!(picture(4, 6, &[], 0, 3), unfilled(0));
+    let unfilled = |share, difference| Ok(Picture { filled: false, share, difference });
+    assert_eq!(picture(4, 6, A, 0, 2), unfilled(1, 0));
+    assert_eq!(picture(4, 6, &[1, 2], 0, 3), unfilled(1, -1));
+    assert_eq!(picture(4, 6, &[], 0, 3), unfilled(0, -3));
     assert_eq!(chosen(4, 6, &[A], ANY, 2), Ok((0, vec![-1, 1, 4])));
     assert_eq!(chosen(4, 6, &[B], ANY, 2), Ok((0, vec![0, 3, 5])));
     assert_eq!(chosen(4, 6, &[A, B], 0, 2), refused(11, 0));
@@ -518,7 +518,33 @@ fn worked_orders_read() {
     assert_eq!(ordered(printing(0, &[0, 128]), &[], 0), refused(14, 0));
 }
 
-// ---- The outside vectors of document 02, b), c), e) and f) ----
+/// How a column leans: document 02's g), its issue's cases.
+#[test]
+fn worked_pictures() {
+    let thickest = 1 << 31;
+    let cases: [(u32, u32, &[u16], i32, u32, bool, u32, i32); 12] = [
+        (4, 6, A, 0, 2, false, 1, 0),
+        (4, 6, &[1, 2], 0, 3, false, 1, -1),
+        (4, 6, A, -1, 3, false, 1, -1),
+        (4, 6, A, 1, 3, true, 0, 3),
+        (4, 6, A, 2, 3, true, 1, 1),
+        (4, 6, A, 4, 2, false, 0, -2),
+        (4, 6, &[], 0, 3, false, 0, -3),
+        (32, thickest, &[0, 32], 0, 32, true, 0, 32),
+        (32, thickest, &[0, 32], 16, 32, false, 16, 0),
+        (32, thickest, &[0, 32], 15, 32, true, 15, 2),
+        (32, thickest, &[0, 32], -31, 32, false, 1, -30),
+        (512, thickest, &[0, 512], 542, 32, false, 0, -32),
+    ];
+    for (height, set, column, start, thickness, filled, share, difference) in cases {
+        assert_eq!(picture(height, set, column, start, thickness), Ok(Picture { filled, share, difference }), "{column:?} from {start}");
+    }
+    for (start, thickness, place) in [(-32, 32, 0), (543, 32, 0), (0, 31, 1)] {
+        assert_eq!(picture(512, thickest, &[0, 512], start, thickness), refused(13, place), "from {start}");
+    }
+}
+
+// ---- The outside vectors of document 02, b), c), e), f) and g) ----
 
 /// The cases of tools/vectors/NAME.txt, each by its fields.
 fn outside(name: &str) -> Vec<Vec<String>> {
@@ -578,6 +604,22 @@ fn outside_counts() {
         let expected = answered(&fields[2], &fields[3]);
         assert_eq!(counts(height, set), expected, "case {case}");
         assert_eq!(entries(height, set), expected.map(|_| one(&fields[4])), "case {case}");
+    }
+}
+
+#[test]
+fn outside_pictures() {
+    let cases = outside("g/picture");
+    assert_eq!(cases.len(), 306);
+    for (case, fields) in cases.iter().enumerate() {
+        let [height, set, thickness] = [0, 1, 4].map(|i| one(&fields[i]));
+        let answer = picture(height, set, &list::<u16>(&fields[2]), one(&fields[3]), thickness);
+        let expected = answered(&fields[5], &fields[6]).map(|_| Picture {
+            filled: one::<u32>(&fields[7]) == 1,
+            share: one(&fields[8]),
+            difference: one(&fields[9]),
+        });
+        assert_eq!(answer, expected, "case {case}");
     }
 }
 
