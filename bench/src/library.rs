@@ -185,7 +185,9 @@ pub fn as_tabled(answer: Answer<Head>) -> Tabled {
 
 pub fn as_pictured(answer: Answer<Picture>) -> Pictured {
     match answer {
-        Ok(p) => Pictured { number: 0, filled: u32::from(p.filled), value: u64::from(p.share), difference: p.difference },
+        Ok(p) => {
+            Pictured { number: 0, filled: u32::from(p.filled), value: u64::from(p.share), difference: p.difference }
+        }
         Err(r) => Pictured { number: r.number, filled: 0, value: r.place, difference: 0 },
     }
 }

@@ -193,8 +193,11 @@ fn pictures_agree() {
             for start in plate.lowest()..=plate.last_start() {
                 for thickness in plate.thicknesses() {
                     let (inside, outside) = brute::inside_outside(column, start, thickness);
-                    let expected =
-                        Picture { filled: inside > outside, share: inside.min(outside), difference: inside as i32 - outside as i32 };
+                    let expected = Picture {
+                        filled: inside > outside,
+                        share: inside.min(outside),
+                        difference: inside as i32 - outside as i32,
+                    };
                     let answer = picture(height, set, column, start as i32, thickness as u32);
                     assert_eq!(answer, Ok(expected), "case {case}");
                 }

@@ -537,7 +537,11 @@ fn worked_pictures() {
         (512, thickest, &[0, 512], 542, 32, false, 0, -32),
     ];
     for (height, set, column, start, thickness, filled, share, difference) in cases {
-        assert_eq!(picture(height, set, column, start, thickness), Ok(Picture { filled, share, difference }), "{column:?} from {start}");
+        assert_eq!(
+            picture(height, set, column, start, thickness),
+            Ok(Picture { filled, share, difference }),
+            "{column:?} from {start}"
+        );
     }
     for (start, thickness, place) in [(-32, 32, 0), (543, 32, 0), (0, 31, 1)] {
         assert_eq!(picture(512, thickest, &[0, 512], start, thickness), refused(13, place), "from {start}");
