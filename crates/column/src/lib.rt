@@ -7,6 +7,7 @@ ghost use lib.IntN.{pos, _-ℤ_};
 ghost use lib.ListN.{length};
 ghost use Rattle.lists.specs.Checks.{first};
 ghost use Rattle.paper.specs.Layer.{insideCount};
+ghost use Rattle.paper.specs.Limits.{mostThickness};
 ghost use Rattle.plate.specs.Checked.{saidBy};
 ghost use Rattle.plate.specs.Refusal.{decided};
 ghost use Rattle.plate.specs.Settings.{Sound};
@@ -190,7 +191,7 @@ fn share_of(inside: u32, t: u32) -> u32
 
 // By how much t voxels of which so many are inside lean.
 fn difference_of(inside: u32, t: u32) -> i32
-    requires { ⌜ (inside ≤ t) × (t ≤ 32) ⌝ }
+    requires { ⌜ (inside ≤ t) × (t ≤ mostThickness) ⌝ }
     ensures { λ r. ⌜ r ≡ pos inside -ℤ pos (t - inside) ⌝ }
 {
     let outside = t - inside;

@@ -16,7 +16,7 @@ use Rattle.plate.specs.Datum.{datum, heightOf}
 pub wide64 : {z : ℤ} → SFits w32 z → SFits w64 z
 wide64 f = record { sfits = omega (arith, f .sfits) }
 
-mag-sub : (a b : ℕ) → mag (subℕ a b) ≤ a + b
+pub mag-sub : (a b : ℕ) → mag (subℕ a b) ≤ a + b
 mag-sub a b = go (ltb a b)
   where
     go : (t : Bool) → mag (cond t (negsuc (b - suc a)) (pos (a - b))) ≤ a + b
