@@ -9,7 +9,7 @@ enum { HEIGHT = 4, SET = 6, COLUMNS = 2 };
 
 static const uint16_t columns[COLUMNS][2] = {{1, 4}, {0, 3}};
 
-/* |difference| / thickness, in hundredths: 0 at a tie, 100 where the layer holds no boundary of the column. */
+/* |difference| / thickness in hundredths, rounded down: 0 at a tie, 100 where no boundary of the column lies strictly inside the layer. */
 static uint32_t sure(shagorent_picture_reply picture, uint32_t thickness) {
     return (uint32_t)abs(picture.difference) * 100 / thickness;
 }

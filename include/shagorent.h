@@ -109,7 +109,7 @@ typedef struct {
     uint32_t number;
     uint32_t filled;    /* 1 or 0 */
     uint64_t value;     /* the share, or the place */
-    int32_t difference; /* inside minus outside, -32 to 32 */
+    int32_t difference; /* inside minus outside, -32 to 32; 0 at a tie, and where refused */
 } shagorent_picture_reply;
 
 typedef struct {
@@ -198,9 +198,9 @@ shagorent_reply shagorent_recount(const uint32_t *table, size_t table_length, sh
 /* ---- Pictures and motors. */
 
 /* Whether the layer from `start` of this thickness fills the column in its picture, the column's share of the layer's error, and by how much the column
- * leans: its voxels inside the layer minus those outside, from -thickness to thickness. |difference| / thickness is how sure the picture is. Filled is
- * where the difference is above 0; at a tie it is 0, and the column is left unfilled; 2 * share + |difference| is the thickness. A layer wholly
- * under the plate or over it has a picture too, with a difference of -thickness.
+ * leans: of the layer's voxels in this column those inside minus those outside, from -thickness to thickness. |difference| / thickness is how sure the
+ * picture is. The column is filled exactly where the difference is above 0; at a tie it is 0, and the column is left unfilled; 2 * share + |difference| is
+ * the thickness. A layer wholly under the plate or over it has a picture too, with a difference of -thickness.
  * Refusals 1, 2, 4, 5, 13 (0: a start that is not one of the table's; 1: a thickness that is not allowed). */
 shagorent_picture_reply shagorent_picture(uint32_t height, uint32_t set, const uint16_t *column, size_t column_length, int32_t start,
                                           uint32_t thickness);

@@ -522,7 +522,7 @@ fn worked_orders_read() {
 #[test]
 fn worked_pictures() {
     let thickest = 1 << 31;
-    let cases: [(u32, u32, &[u16], i32, u32, bool, u32, i32); 12] = [
+    let cases: [(u32, u32, &[u16], i32, u32, bool, u32, i32); 13] = [
         (4, 6, A, 0, 2, false, 1, 0),
         (4, 6, &[1, 2], 0, 3, false, 1, -1),
         (4, 6, A, -1, 3, false, 1, -1),
@@ -534,6 +534,7 @@ fn worked_pictures() {
         (32, thickest, &[0, 32], 16, 32, false, 16, 0),
         (32, thickest, &[0, 32], 15, 32, true, 15, 2),
         (32, thickest, &[0, 32], -31, 32, false, 1, -30),
+        (512, thickest, &[0, 512], -31, 32, false, 1, -30),
         (512, thickest, &[0, 512], 542, 32, false, 0, -32),
     ];
     for (height, set, column, start, thickness, filled, share, difference) in cases {

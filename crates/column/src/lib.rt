@@ -189,7 +189,7 @@ fn share_of(inside: u32, t: u32) -> u32
     if outside < inside { outside } else { inside }
 }
 
-// By how much t voxels of which so many are inside lean.
+// Inside minus outside, of t voxels of which so many are inside.
 fn difference_of(inside: u32, t: u32) -> i32
     requires { ⌜ (inside ≤ t) × (t ≤ mostThickness) ⌝ }
     ensures { λ r. ⌜ r ≡ pos inside -ℤ pos (t - inside) ⌝ }

@@ -95,7 +95,7 @@ module _ (bs : List ℕ) (z : ℤ) (t : ℕ) where
   pub difference-tie : (d ≡ pos 0) ↔ (i ≡ o)
   difference-tie = tie-none i o d (less i o)
 
-  -- what the two shares leave of the layer
+  -- what twice the share leaves of the layer
   pub difference-size : 2 * share bs z t + natAbs d ≡ t
   difference-size = size-rest i o d (less i o) ∙ together
 

@@ -1,5 +1,5 @@
 -- Document 01, 'One plate in full': N = 4, T = {2, 3}, columns A = 1, 4 and B = 0, 3. The facts marked P1 to P13 as one list, over the
--- document's own definitions. Assumes nothing.
+-- documents' own definitions, P4 to P6 with document 02 g)'s differences. Assumes nothing.
 use Prim.Native.Nat.{ℕ, _<_}
 use mathlib.Core.Path.{_≡_}
 use mathlib.Core.Bool.{Bool, false}
@@ -65,7 +65,7 @@ facts =
     cell 7 (pos 0) 2 1
     ∷ cell 5 (minus 1) 3 2
     ∷ cell 10 (pos 1) 2 0
-    -- P4 to P6, with document 02 g)'s differences
+    -- P4 to P6
     ∷ picture A (pos 0) 2 false 1 (pos 0)
     ∷ picture (1 ∷ 2 ∷ []) (pos 0) 3 false 1 (minus 1)
     ∷ empty

@@ -1,5 +1,5 @@
--- Document 01, 'Plate, column, layer': its first three paragraphs, sentence by sentence. A height or a boundary of a layer is a whole
--- number, below 0 as well: `pos n` is n, and `negsuc n` is -(n + 1). Assumes nothing.
+-- Document 01, 'Plate, column, layer': its first three paragraphs, sentence by sentence, with document 02 g)'s difference. A height or a boundary of
+-- a layer is a whole number, below 0 as well: `pos n` is n, and `negsuc n` is -(n + 1). Assumes nothing.
 use Prim.Native.Nat.{ℕ, zero, suc, _+_, _-_, _/_, _%_, _^_, _≤_, _<_, min}
 use mathlib.Core.Path.{_≡_}
 use mathlib.Core.Bool.{Bool, true, false, not, cond, _&&_}
