@@ -189,13 +189,20 @@ fn share_of(inside: u32, t: u32) -> u32
     if outside < inside { outside } else { inside }
 }
 
+// One count of voxels minus another, which may be below 0.
+fn minus(a: u32, b: u32) -> i32
+    requires { ⌜ (a ≤ mostThickness) × (b ≤ mostThickness) ⌝ }
+    ensures { λ r. ⌜ r ≡ pos a -ℤ pos b ⌝ }
+{
+    a as i32 - b as i32
+}
+
 // Inside minus outside, of t voxels of which so many are inside.
 fn difference_of(inside: u32, t: u32) -> i32
     requires { ⌜ (inside ≤ t) × (t ≤ mostThickness) ⌝ }
     ensures { λ r. ⌜ r ≡ pos inside -ℤ pos (t - inside) ⌝ }
 {
-    let outside = t - inside;
-    inside as i32 - outside as i32
+    minus(inside, t - inside)
 }
 
 // Where the settings are in order: 4, 5, 13.

@@ -1,8 +1,9 @@
--- `difference_of` meets its contract: of counts of at most 32 the difference fits an i32, and is read back as it is. Assumes nothing.
-use Prim.Native.Nat.{_-_}
+-- `difference_of` meets its contract: what `minus` answers of the two counts, read back from its bits. Assumes nothing.
+use mathlib.Core.Path.{_∙_}
 use native.Mathlib.Omega.{arith}
-use borrow.Author.Needs.{needs}
-use Rattle.column.proofs.Signed.{difference-fits, difference-read}
+use borrow.Author.Needs.{needs, sfits-of}
+use mir.Syntax.{w32}
+use mir.ValLaws.{toZ-ofZ}
 use Rattle.column.proofs.difference_of.Statement.{statement}
 use Rattle.column.proofs.difference_of.Tie as tie
 
@@ -11,7 +12,5 @@ difference-of-spec =
     tie.close
     (tie.spec
     (λ c. search needs)
-    (λ c. search needs)
-    (λ c. search needs)
-    (λ c. difference-fits (c .args .inside) (c .args .t - c .args .inside) (omega arith) (omega arith))
-    (λ c. difference-read (c .args .inside) (c .args .t - c .args .inside) (omega arith) (omega arith)))
+    (λ c κs. omega arith)
+    (λ c. toZ-ofZ w32 (c .minus .result) (sfits-of (c .minus .ok)) ∙ c .minus .ensures))
