@@ -1,4 +1,6 @@
 // Adding a column to a table.
+#![tactic(auto)]
+
 ghost use Rattle.std.specs.Prelude.{◌≡◌, false, ℕ, ◌+◌, ◌-◌, ◌*◌, ◌<◌, ◌≤◌, length, get_or};
 ghost use Rattle.lists.specs.Search.{lowest};
 ghost use Rattle.lists.specs.Rewrite.{Span};

@@ -1,4 +1,6 @@
 // A column: its order, and one column in one layer.
+#![tactic(auto)]
+
 ghost use Rattle.std.specs.Prelude.{false, ◌≡◌, ℕ, ◌+◌, ◌-◌, ◌%◌, ◌<◌, ◌≤◌, min, ltb, pos, ◌-ℤ◌, length, ◌++◌};
 ghost use Rattle.lists.specs.Checks.{first};
 ghost use Rattle.paper.specs.Layer.{inside_count};
@@ -16,7 +18,7 @@ use plate::refusal::{Checked, Reason, Refusal, refusal_at};
 use plate::settings::{Made, Settings, is_allowed};
 
 // A column's limit.
-#[derive(Drop)]
+#[derive(Clone, Copy)]
 pub struct Column;
 
 impl Column {
@@ -24,14 +26,14 @@ impl Column {
 }
 
 // One column in one layer: whether the picture fills it, its share, and by how much it leans: inside voxels less outside ones, -32 to 32.
-#[derive(Drop)]
+#[derive(Clone, Copy)]
 pub struct Judged {
     pub filled: bool,
     pub share: u32,
     pub difference: i32,
 }
 
-#[derive(Drop)]
+#[derive(Clone, Copy)]
 pub enum Pictured {
     Done(Judged),
     Refused(Refusal),

@@ -1,4 +1,6 @@
 // The job file: its kinds of records, a cursor by value that reads one record, and a reading state that goes in and comes back.
+#![tactic(auto)]
+
 ghost use Rattle.std.specs.Prelude.{◌≡◌, false, [], ◌∷◌, ◌≤◌, length};
 ghost use Rattle.lists.specs.Checks.{first};
 ghost use Rattle.paper.specs.Limits.{most_boundaries};
@@ -20,7 +22,7 @@ use plate::settings::{Made, Settings};
 use record::{Fault, check_frame, check_tail, kind_at, length_at, quad, read_words, word};
 
 // What a settings record asks for.
-#[derive(Drop)]
+#[derive(Clone, Copy)]
 pub struct Asked {
     pub height: u32,
     pub members: u32,
@@ -28,7 +30,7 @@ pub struct Asked {
 }
 
 // What has been read so far: whether settings were, whether the end was, what goes with the table of these columns, and the bound.
-#[derive(Drop)]
+#[derive(Clone, Copy)]
 pub struct State {
     pub begun: bool,
     pub ended: bool,
@@ -80,7 +82,7 @@ impl State {
 }
 
 // The kinds of records.
-#[derive(Drop)]
+#[derive(Clone, Copy)]
 pub enum Kind {
     Settings,
     Column,
@@ -139,7 +141,7 @@ impl Kind {
 }
 
 // What a record is. A column is `count` boundaries of two bytes each, from `start` on.
-#[derive(Drop)]
+#[derive(Clone, Copy)]
 pub enum Read {
     Settings(Asked),
     Column { start: usize, count: usize },
@@ -148,13 +150,13 @@ pub enum Read {
     Fault { reason: Reason, place: usize },
 }
 
-#[derive(Drop)]
+#[derive(Clone, Copy)]
 pub struct Cursor {
     pub at: usize,
 }
 
 // What was read, and where and in which state the reading goes on.
-#[derive(Drop)]
+#[derive(Clone, Copy)]
 pub struct Step {
     pub read: Read,
     pub cursor: Cursor,

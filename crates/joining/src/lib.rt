@@ -1,4 +1,6 @@
 // Joining a second table into a first one, and taking it off.
+#![tactic(auto)]
+
 ghost use Rattle.std.specs.Prelude.{◌≡◌, ℕ, ◌+◌, ◌-◌, ◌<◌, ◌≤◌, false, length, slice_index};
 ghost use Rattle.lists.specs.Checks.{first};
 ghost use Rattle.lists.specs.Search.{lowest};

@@ -1,4 +1,6 @@
 // A job file read into a lent table: it is judged whole before the table is written.
+#![tactic(auto)]
+
 ghost use Rattle.std.specs.Prelude.{◌≡◌, ◌≤◌, length};
 ghost use Rattle.std.proofs.Math.Option.{none};
 ghost use Rattle.lists.specs.Checks.{first};
@@ -24,21 +26,21 @@ use record::{check_tail, read_words};
 use table::clear_table;
 
 // What a read job answers: what goes with its table, and its bound.
-#[derive(Drop)]
+#[derive(Clone, Copy)]
 pub struct Load {
     pub head: Head,
     pub bound: u32,
 }
 
 // What reading a file into a table answers.
-#[derive(Drop)]
+#[derive(Clone, Copy)]
 pub enum Loaded {
     Done(Load),
     Refused(Refusal),
 }
 
 // What a record means for the file that it stands in: it is read on, it is the end, or it is refused.
-#[derive(Drop)]
+#[derive(Clone, Copy)]
 pub enum Heed {
     Onward,
     Ended,
@@ -46,7 +48,7 @@ pub enum Heed {
 }
 
 // What a look through the job at the front of the input finds: what it answers and the place past it, or a refusal.
-#[derive(Drop)]
+#[derive(Clone, Copy)]
 pub enum Survey {
     Ended { load: Load, past: usize },
     Refused(Refusal),

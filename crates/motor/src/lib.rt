@@ -1,4 +1,6 @@
 // Motor heights: the boundary z of a plan in micrometres, for a motor whose step is given in eighths of a micrometre.
+#![tactic(auto)]
+
 ghost use Rattle.std.specs.Prelude.{◌≡◌, [], ◌∷◌};
 ghost use Rattle.lists.specs.Checks.{first};
 ghost use Rattle.plate.specs.Checked.{said_by};
@@ -7,7 +9,7 @@ ghost use Rattle.motor.specs.Height.{step_check, height_answer, told_lifted, Lif
 use plate::refusal::{Checked, Reason, Refusal, refusal_at};
 
 // A motor's limits: its step, and the boundaries that it can be sent to.
-#[derive(Drop)]
+#[derive(Clone, Copy)]
 pub struct Motor;
 
 impl Motor {
@@ -20,7 +22,7 @@ impl Motor {
     pub const HIGHEST: i32 = 543;
 }
 
-#[derive(Drop)]
+#[derive(Clone, Copy)]
 pub enum Lifted {
     Done(f32),
     Refused(Refusal),

@@ -1,5 +1,7 @@
 // What adding a column asks in the rows near a boundary: how much a cell may hold before, and the voxels from the boundary up, of which each
 // is looked at once.
+#![tactic(auto)]
+
 ghost use Rattle.std.specs.Prelude.{◌≡◌, false, ◌+◌, ◌*◌, ◌%◌, ◌<◌, ◌≤◌, min, max, length, get_or};
 ghost use Rattle.lists.specs.Rewrite.{Span};
 ghost use Rattle.paper.specs.Limits.{most_thickness};

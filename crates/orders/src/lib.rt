@@ -1,5 +1,7 @@
 // The printer's order list: a plan's layers as orders to lift, to cure and to finish, written as a file, and read from one again. Nothing but a
 // plan's own bytes pass as one.
+#![tactic(auto)]
+
 ghost use Rattle.std.specs.Prelude.{◌≡◌, cond, ◌&&◌, ◌++◌, ◌+◌, ◌*◌, ◌≤◌, ◌<◌, ltb, eqb, nat_abs, ◌-ℤ◌, length};
 ghost use Rattle.std.proofs.lemmas.List.Edits.{sets};
 ghost use Rattle.lists.specs.Checks.{first};
@@ -32,7 +34,7 @@ use record::{Fault, check_frame, check_tail, kind_at, length_at, quad, word, wri
 use recount::check_sequence;
 
 // The kinds of records.
-#[derive(Drop)]
+#[derive(Clone, Copy)]
 pub struct Kind;
 
 impl Kind {
@@ -44,7 +46,7 @@ impl Kind {
 }
 
 // A layer as printed: its upper height above the first boundary and its thickness in micrometres, its cure time in seconds.
-#[derive(Drop)]
+#[derive(Clone, Copy)]
 pub struct Printed {
     pub height: f32,
     pub thickness: f32,
@@ -52,21 +54,21 @@ pub struct Printed {
 }
 
 // Lift to so many micrometres above the first boundary, cure for so many seconds, finish after so many layers.
-#[derive(Drop)]
+#[derive(Clone, Copy)]
 pub enum Order {
     Lift(f32),
     Cure(f32),
     Finish(u32),
 }
 
-#[derive(Drop)]
+#[derive(Clone, Copy)]
 pub enum Ordered {
     Done(Order),
     Refused(Refusal),
 }
 
 // The layers that were read: their number, the thickness of the first, and how high they are together, in units.
-#[derive(Drop)]
+#[derive(Clone, Copy)]
 pub struct Stack {
     pub layers: usize,
     pub first: usize,
@@ -74,7 +76,7 @@ pub struct Stack {
 }
 
 // The next layer in a file: its thickness, or the refusal of one of its two records.
-#[derive(Drop)]
+#[derive(Clone, Copy)]
 pub enum Layer {
     Thick(usize),
     Refused(Refusal),

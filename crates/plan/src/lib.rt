@@ -1,4 +1,6 @@
 // Plans: filling the two sheets and the list.
+#![tactic(auto)]
+
 ghost use Rattle.std.specs.Prelude.{◌≡◌, ℕ, ◌+◌, ◌-◌, ◌*◌, ◌/◌, ◌<◌, ◌≤◌, length};
 ghost use Rattle.lists.specs.Grid.{flat};
 ghost use Rattle.lists.specs.Rewrite.{Span};

@@ -1,5 +1,7 @@
 // The planning program: one job from standard input, and what `report::plan_job` says of it to standard output. The sizes of both buffers are
 // those of `plan_job`'s types: with any other the program does not type-check.
+#![tactic(auto)]
+
 use libc::STDOUT_FILENO;
 use report::plan_job;
 

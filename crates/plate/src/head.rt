@@ -6,7 +6,7 @@ ghost use Rattle.plate.specs.Head.{cleared_head, with_columns, more, both, less,
 use crate::refusal::Refusal;
 
 #[repr(C)]
-#[derive(Drop)]
+#[derive(Clone, Copy)]
 pub struct Head {
     pub height: u32,
     pub members: u32,
@@ -14,7 +14,7 @@ pub struct Head {
 }
 
 // What a call on a table answers: what goes with the table then, or a refusal.
-#[derive(Drop)]
+#[derive(Clone, Copy)]
 pub enum Tabled {
     Done(Head),
     Refused(Refusal),

@@ -6,7 +6,7 @@ ghost use Rattle.plate.specs.Settings.{most_counts, settings_checks, Judges};
 
 use crate::refusal::{Reason, Refusal, refusal_at};
 
-#[derive(Drop)]
+#[derive(Clone, Copy)]
 pub struct Settings {
     pub height: usize,
     pub members: u32,
@@ -21,7 +21,7 @@ pub struct Settings {
 }
 
 // What a function that asks some checks of a call finds: the settings, where all pass, or the refusal of the first that does not.
-#[derive(Drop)]
+#[derive(Clone, Copy)]
 pub enum Made {
     Good(Settings),
     Bad(Refusal),

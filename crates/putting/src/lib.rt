@@ -1,6 +1,8 @@
 // A last layer put on the sequences of one row, count after count: where planning spends its time. The two sheets are lent in part: of the
 // thickness sheet the entries of the counts that it ends at, of the error sheet those from the first that it starts from to the last that it
 // ends at.
+#![tactic(auto)]
+
 ghost use Rattle.std.specs.Prelude.{◌≡◌, ◌-◌, length};
 ghost use Rattle.putting.specs.Putting.{sum_or_none, Placed, PutOn, PutAll};
 

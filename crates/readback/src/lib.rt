@@ -1,4 +1,6 @@
 // Reading a sequence back from two sheets, which may hold anything.
+#![tactic(auto)]
+
 ghost use Rattle.std.specs.Prelude.{◌≡◌, not, ◌||◌, ◌++◌, ◌+◌, ◌<◌, ◌≤◌, ltb, eqb, length, drop};
 ghost use Rattle.std.proofs.Math.Option.{none};
 ghost use Rattle.lists.specs.Checks.{first};
@@ -19,7 +21,7 @@ use plate::settings::{Made, Settings, is_allowed};
 use sheets::{Least, NONE, at_row, entry_index, is_start, least_end};
 
 // How a walk down a sheet of thicknesses ends.
-#[derive(Drop)]
+#[derive(Clone, Copy)]
 pub enum Walk {
     Fine,
     Fault(usize),

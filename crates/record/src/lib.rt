@@ -1,5 +1,7 @@
 // A record in a file: little-endian numbers, the bytes that are left, and what is asked of every record before its body is looked at. A byte
 // past the end of the input reads 0, so that there is a number at every place.
+#![tactic(auto)]
+
 ghost use Rattle.std.specs.Prelude.{◌≡◌, [], ◌∷◌, ◌+◌, ◌*◌, ◌≤◌, length};
 ghost use Rattle.std.proofs.lemmas.List.Edits.{sets};
 ghost use Rattle.lists.specs.Checks.{first};
@@ -13,7 +15,7 @@ use plate::refusal::{Checked, Reason, refusal_at};
 
 // Why a file is refused, a reason for each of its checks: fewer than 4 bytes left, kind not allowed here, wrong length for the kind, body past
 // the input, contents that disagree with the file, bytes after the end. Document 02 f) gives them four numbers.
-#[derive(Drop)]
+#[derive(Clone, Copy)]
 pub struct Fault;
 
 impl Fault {

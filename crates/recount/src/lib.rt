@@ -1,4 +1,6 @@
 // Recounting a given sequence over a table.
+#![tactic(auto)]
+
 ghost use Rattle.std.specs.Prelude.{◌≡◌, ◌++◌, ◌+◌, ◌<◌, length};
 ghost use Rattle.paper.specs.Sequence.{◌!◌};
 ghost use Rattle.plate.specs.Call.{Does};
@@ -17,7 +19,7 @@ use sheets::{is_start, row_of};
 use table::{cell_of, check_table};
 
 // A look at a layer by itself: no layer of an admissible sequence, or its error.
-#[derive(Drop)]
+#[derive(Clone, Copy)]
 pub enum Layer {
     Out,
     Error(u64),

@@ -1,5 +1,7 @@
 // What is told to other languages: a struct by value for each kind of answer, with the number of a refusal, or 0, in front. shagorent's calls hand
 // these out, and include/shagorent.h has the same structs in C.
+#![tactic(auto)]
+
 ghost use Rattle.std.specs.Prelude.{◌≡◌};
 ghost use Rattle.plate.specs.Refusal.{done, refusal, told};
 ghost use Rattle.plate.specs.Head.{told_table};
@@ -18,7 +20,7 @@ use plate::refusal::{Answer, Refusal};
 
 // The answer, or a refusal's number and its place.
 #[repr(C)]
-#[derive(Drop)]
+#[derive(Clone, Copy)]
 pub struct Reply {
     pub number: u32,
     pub value: u64,
@@ -26,7 +28,7 @@ pub struct Reply {
 
 // What goes with the table then, or a refusal.
 #[repr(C)]
-#[derive(Drop)]
+#[derive(Clone, Copy)]
 pub struct TableReply {
     pub number: u32,
     pub head: Head,
@@ -35,7 +37,7 @@ pub struct TableReply {
 
 // Whether the picture fills the column, its share and its difference; or a refusal's number and its place.
 #[repr(C)]
-#[derive(Drop)]
+#[derive(Clone, Copy)]
 pub struct PictureReply {
     pub number: u32,
     pub filled: u32,
@@ -45,7 +47,7 @@ pub struct PictureReply {
 
 // The height in micrometres, or a refusal.
 #[repr(C)]
-#[derive(Drop)]
+#[derive(Clone, Copy)]
 pub struct HeightReply {
     pub number: u32,
     pub height: f32,
@@ -54,7 +56,7 @@ pub struct HeightReply {
 
 // What goes with a job's table, and the bound that it asks for; or a refusal.
 #[repr(C)]
-#[derive(Drop)]
+#[derive(Clone, Copy)]
 pub struct JobReply {
     pub number: u32,
     pub head: Head,
@@ -64,7 +66,7 @@ pub struct JobReply {
 
 // An order, by the kind of its record: micrometres to lift to or seconds to cure for, or the layers to finish after; or a refusal.
 #[repr(C)]
-#[derive(Drop)]
+#[derive(Clone, Copy)]
 pub struct OrderReply {
     pub number: u32,
     pub kind: u32,

@@ -1,4 +1,6 @@
 // What the planning program prints for a job file. The functions below `plan_job` lay a text into a lent buffer as far as the buffer goes.
+#![tactic(auto)]
+
 ghost use Rattle.std.specs.Prelude.{◌≡◌, ◌+◌, ◌≤◌, ◌<◌, length, take};
 ghost use Rattle.paper.specs.Sequence.{◌!◌};
 ghost use Rattle.plate.specs.Refusal.{number_of};

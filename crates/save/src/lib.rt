@@ -1,4 +1,6 @@
 // Saving a plate: settings, a bound and columns, which come as one run of boundaries and one count for each column, written as a job file.
+#![tactic(auto)]
+
 ghost use Rattle.std.specs.Prelude.{◌≡◌, ◌+◌, ◌*◌, ◌≤◌, length};
 ghost use Rattle.std.proofs.Math.Option.{none};
 ghost use Rattle.std.proofs.lemmas.List.Edits.{sets};

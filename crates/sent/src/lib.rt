@@ -1,9 +1,11 @@
 // The table file: its kinds of records, and the two bytes of a row's start.
+#![tactic(auto)]
+
 ghost use Rattle.std.specs.Prelude.{◌≡◌, ◌-◌, pos, ◌-ℤ◌};
 ghost use Rattle.sent.specs.Start.{twos16};
 
 // The kinds of records.
-#[derive(Drop)]
+#[derive(Clone, Copy)]
 pub struct Kind;
 
 impl Kind {

@@ -1,4 +1,6 @@
 // The calls for other languages: a thin function over each of the library's, with a reply by value. include/shagorent.h says the same in C.
+#![tactic(auto)]
+
 ghost use Rattle.std.specs.Prelude.{◌≡◌};
 ghost use Rattle.paper.specs.Layer.{column_of};
 ghost use Rattle.paper.specs.Table.{cells};

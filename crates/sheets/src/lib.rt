@@ -1,5 +1,7 @@
 // What planning, reading back and recounting share: which heights are starts, whether a layer has the shape of one, where an entry of a sheet
 // stands, the entry that stands for none, and the least of some entries.
+#![tactic(auto)]
+
 ghost use Rattle.std.specs.Prelude.{◌≡◌, ◌-◌, ◌<◌, get_or};
 ghost use Rattle.paper.specs.Sheets.{entry_index, missing};
 ghost use Rattle.plate.specs.Datum.{row_of, at_row};
@@ -14,7 +16,7 @@ use plate::settings::is_allowed;
 pub const NONE: u64 = 18446744073709551615;
 
 // The least of some entries, and the lowest place among them that has it; NONE, at 0, where there is none.
-#[derive(Drop)]
+#[derive(Clone, Copy)]
 pub struct Least {
     pub error: u64,
     pub place: usize,

@@ -1,4 +1,6 @@
 // The table of a plate: what asks whether it is in order, and clearing it. Adding a column, joining and taking off are crates of their own.
+#![tactic(auto)]
+
 ghost use Rattle.std.specs.Prelude.{◌≡◌, false, ℕ, ◌+◌, ◌-◌, ◌*◌, ◌<◌, ◌≤◌, min, length, get_or};
 ghost use Rattle.lists.specs.Search.{lowest};
 ghost use Rattle.lists.specs.Rewrite.{Span};

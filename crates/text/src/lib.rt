@@ -1,4 +1,6 @@
 // Text in ASCII, laid into a lent buffer as far as the buffer goes. Each function takes the place of the next byte and answers the next.
+#![tactic(auto)]
+
 ghost use Rattle.std.specs.Prelude.{◌≡◌, [], ◌∷◌};
 ghost use Rattle.text.specs.Sink.{sink, put};
 ghost use Rattle.text.specs.Numbers.{decimal, signed};

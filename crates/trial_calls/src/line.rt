@@ -30,7 +30,7 @@ fn tenfold(number: u64, digit: u64) -> u64 {
 
 // A number that is being read: whether it has a digit, whether it is over, and where the next one may begin. One below 0 is held as so much
 // less than the greatest.
-#[derive(Drop)]
+#[derive(Clone, Copy)]
 pub struct Number {
     pub value: u64,
     pub begun: bool,

@@ -1,6 +1,8 @@
 // Makes the calls of the list that stands in `stdin` on the compiled library, and prints what each answers and what the buffers lent to it
 // then hold. A table and two sheets stay from line to line, of the greatest sizes and some room past them; what else a call is lent stands in
 // its own line.
+#![tactic(auto)]
+
 mod calls;
 mod line;
 mod list;

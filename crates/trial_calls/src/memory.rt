@@ -92,7 +92,7 @@ pub(crate) fn part_heights(buffer: &[i32], lent: u64) -> &[i32] {
 }
 
 // What is laid into a buffer: from which index and to which, and a base of marks, which stand where there are no more numbers.
-#[derive(Drop)]
+#[derive(Clone, Copy)]
 struct Laying {
     from: u64,
     to: u64,

@@ -1,5 +1,7 @@
 // Many job files one after another, each two bytes of length and then the file: for each a line with its number, and then what the planning
 // program prints for it.
+#![tactic(auto)]
+
 ghost use Rattle.std.specs.Prelude.{◌+◌, ◌≤◌, ◌<◌, length};
 
 use libc::STDOUT_FILENO;

@@ -15,7 +15,7 @@ use send::write_table;
 use table::clear_table;
 
 // What goes with the table so far, and whether the last call was refused.
-#[derive(Drop)]
+#[derive(Clone, Copy)]
 pub(crate) struct Work {
     pub(crate) head: Head,
     pub(crate) refused: bool,

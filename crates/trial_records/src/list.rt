@@ -19,7 +19,7 @@ fn longer(number: u64, character: u8) -> u64 {
 }
 
 // Numbers, and which of them the next character belongs to.
-#[derive(Drop)]
+#[derive(Clone, Copy)]
 struct Numbers {
     held: [u64; 8],
     last: usize,

@@ -59,7 +59,7 @@ pub(crate) fn write(given: &[u8], boundaries: &mut [u16], counts: &mut [u16], ou
 }
 
 // What was read of a file so far: its settings and bound, how many boundaries and columns, and how many remarks.
-#[derive(Drop)]
+#[derive(Clone, Copy)]
 struct Gathered {
     asked: Asked,
     together: usize,

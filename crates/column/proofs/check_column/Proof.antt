@@ -10,30 +10,30 @@ use Rattle.column.specs.Order.{misplaced, first_misplaced, column_checks}
 use Rattle.column.proofs.check_column.Statement.{statement}
 use Rattle.column.proofs.check_column.Tie as tie
 
-returns : tie.Need-returns
+returns : tie.Need-returns-then-is_wrong_count
 unfolding column_checks
-returns c = simp (sym c.before.is-wrong-count.ensures ∙ c.if1.true)
+returns c = simp (sym c.is_wrong_count.ensures ∙ c.if-is_wrong_count.true)
 
-returns-2 : tie.Need-returns-2
+returns-2 : tie.Need-returns-then-not-any_misplaced
 unfolding column_checks first_misplaced
 returns-2 c =
-    let a = c.before.before.before.before.before.args in
+    let a = c.args in
     let bs = a.column.now in
-    let none : first_misplaced a.height bs ≡ length bs = lowest-none (misplaced a.height bs) (length bs) (c.before.any-misplaced.ensures (not-true _ c.if2.true)) in
-    simp (sym c.before.before.before.is-wrong-count.ensures ∙ c.before.before.if1.false, none, le-ltb (length bs) (length bs) (omega arith))
+    let none : first_misplaced a.height bs ≡ length bs = lowest-none (misplaced a.height bs) (length bs) (c.any_misplaced.ensures (c.if-not-any_misplaced.true)) in
+    simp (sym c.is_wrong_count.ensures ∙ c.if-is_wrong_count.false, none, le-ltb (length bs) (length bs) (omega arith))
 
-returns-3 : tie.Need-returns-3
+returns-3 : tie.Need-returns-then-at-count
 unfolding column_checks
 returns-3 c =
     let w = c.before.before.before.before in
-    simp (sym w.before.is-wrong-count.ensures ∙ w.if1.false, ← c.before.first-misplaced.ensures, lt-ltb _ _ c.if3.true)
+    simp (sym w.is_wrong_count.ensures ∙ w.if-is_wrong_count.false, ← c.first_misplaced-at.ensures, lt-ltb _ _ c.if-at-count.true)
 
-returns-4 : tie.Need-returns-4
+returns-4 : tie.Need-returns
 unfolding column_checks
 returns-4 c =
     let w = c.before.before.before.before in
-    simp (sym w.before.is-wrong-count.ensures ∙ w.if1.false, ← c.before.first-misplaced.ensures, le-ltb _ _ c.if3.false)
+    simp (sym w.is_wrong_count.ensures ∙ w.if-is_wrong_count.false, ← c.first_misplaced-at.ensures, le-ltb _ _ c.if-at-count.false)
 
-pub check-column-spec : {M : Type 1} → statement M
-check-column-spec =
+pub check_column_spec : {M : Type 1} → statement M
+check_column_spec =
     tie.close (tie.spec (λ c κs. search rules) returns (λ c κs. search rules) returns-2 (λ c κs. search rules) returns-3 returns-4)

@@ -7,10 +7,10 @@ use mir.ValLaws.{to_z-of_z}
 use Rattle.column.proofs.difference_of.Statement.{statement}
 use Rattle.column.proofs.difference_of.Tie as tie
 
-pub difference-of-spec : {M : Type 1} → statement M
-difference-of-spec =
+pub difference_of_spec : {M : Type 1} → statement M
+difference_of_spec =
     tie.close
     (tie.spec
     (λ c. search rules)
     (λ c κs. omega arith)
-    (λ c. to_z-of_z w32 c.minus.result (sfits_of c.minus.type-inv) ∙ c.minus.ensures))
+    (λ c. to_z-of_z w32 c.minus.result (sfits_of c.minus.type_inv) ∙ c.minus.ensures))

@@ -4,5 +4,5 @@ use borrow.Author.Rules.{rules}
 use Rattle.column.proofs.fills.Statement.{statement}
 use Rattle.column.proofs.fills.Tie as tie
 
-pub fills-spec : {M : Type 1} → statement M
-fills-spec = tie.close (tie.spec (λ c. search rules) (λ c. refl))
+pub fills_spec : {M : Type 1} → statement M
+fills_spec = tie.close (tie.spec (λ c. search rules) (λ c. refl))

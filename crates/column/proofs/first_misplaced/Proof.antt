@@ -11,22 +11,22 @@ use Rattle.column.specs.Order.{misplaced, first_misplaced}
 use Rattle.column.proofs.first_misplaced.Statement.{statement}
 use Rattle.column.proofs.first_misplaced.Tie as tie
 
-abbrev invariant-loop : tie.invariant-loop
+abbrev invariant-loop : tie.invariant-loop-i
 invariant-loop column height i₀ i = (i ≤ length column) × ((k : ℕ) → k < i → misplaced height column k ≡ false)
 
-abbrev decreases-loop : tie.decreases-loop
+abbrev decreases-loop : tie.decreases-loop-i
 decreases-loop column height i₀ i = length column - i
 
-returns : tie.Need-returns invariant-loop decreases-loop
+returns : tie.Need-returns-then-is_misplaced invariant-loop decreases-loop
 unfolding first_misplaced
-returns c = found _ _ _ (omega arith) c.before.before.before.loop.invariant.1 (cc)
+returns c = found _ _ _ (omega arith) c.loop-i.invariant.1 (cc)
 
-returns-2 : tie.Need-returns-2 invariant-loop decreases-loop
+returns-2 : tie.Need-returns invariant-loop decreases-loop
 unfolding first_misplaced
-returns-2 c = missed _ _ _ (omega arith) (omega arith) c.before.loop.invariant.1
+returns-2 c = missed _ _ _ (omega arith) (omega arith) c.loop-i.invariant.1
 
-pub first-misplaced-spec : {M : Type 1} → statement M
-first-misplaced-spec =
+pub first_misplaced_spec : {M : Type 1} → statement M
+first_misplaced_spec =
     tie.close
     (tie.spec
     invariant-loop
@@ -36,5 +36,5 @@ first-misplaced-spec =
     returns
     (λ c. search rules)
     (λ c. search rules)
-    (λ c. (omega arith, below_more _ _ c.before.before.before.loop.invariant.1 (cc)))
+    (λ c. (omega arith, below_more _ _ c.loop-i.invariant.1 (cc)))
     returns-2)

@@ -8,19 +8,19 @@ use Rattle.column.proofs.Inside.{inside-none, inside-more, inside-end}
 use Rattle.column.proofs.inside_of.Statement.{statement}
 use Rattle.column.proofs.inside_of.Tie as tie
 
-abbrev invariant-loop : tie.invariant-loop
+abbrev invariant-loop : tie.invariant-loop-k
 invariant-loop column start thickness n₀ k₀ n k = (k ≤ thickness) × (n ≡ inside column start k) × (n ≤ k)
 
-abbrev decreases-loop : tie.decreases-loop
+abbrev decreases-loop : tie.decreases-loop-k
 decreases-loop column start thickness n₀ k₀ n k = thickness - k
 
-loop-again : tie.Need-loop-preserved invariant-loop decreases-loop
+loop-again : tie.Need-loop-k-preserved invariant-loop decreases-loop
 loop-again c =
     let s = c.before.before.before.before in
-    omega (arith, inside-more s.args.column.now s.args.start c.before.before.loop.k)
+    omega (arith, inside-more s.args.column.now s.args.start c.loop-k.k)
 
-pub inside-of-spec : {M : Type 1} → statement M
-inside-of-spec =
+pub inside_of_spec : {M : Type 1} → statement M
+inside_of_spec =
     tie.close
     (tie.spec
     invariant-loop
@@ -33,4 +33,4 @@ inside-of-spec =
     (λ c. search rules)
     (λ c. search rules)
     loop-again
-    (λ c. (c.before.loop.invariant.1 ∙ inside-end _ _ _ _ (omega arith) (omega arith), omega arith)))
+    (λ c. (c.loop-k.invariant.1 ∙ inside-end _ _ _ _ (omega arith) (omega arith), omega arith)))

@@ -7,13 +7,13 @@ use Rattle.column.proofs.Order.{misplaced-high, misplaced-first, misplaced-next}
 use Rattle.column.proofs.is_misplaced.Statement.{statement}
 use Rattle.column.proofs.is_misplaced.Tie as tie
 
-returns-3 : tie.Need-returns-3
+returns-3 : tie.Need-returns
 returns-3 c =
-    ap₂ leb c.before.before.before.before.wide.ensures.0 c.wide2.ensures.0
-    ∙ misplaced-next _ _ _ (omega arith) c.before.before.if2.false
+    ap₂ leb c.wide-b.ensures.0 c.wide.ensures.0
+    ∙ misplaced-next _ _ _ (omega arith) c.if-i-eq0.false
 
-pub is-misplaced-spec : {M : Type 1} → statement M
-is-misplaced-spec =
+pub is_misplaced_spec : {M : Type 1} → statement M
+is_misplaced_spec =
     tie.close
     (tie.spec
     (λ c. search rules)

@@ -3,5 +3,5 @@ use borrow.Author.Tests.{eq-eqb, ne_eqb}
 use Rattle.column.proofs.is_wrong_count.Statement.{statement}
 use Rattle.column.proofs.is_wrong_count.Tie as tie
 
-pub is-wrong-count-spec : {M : Type 1} → statement M
-is-wrong-count-spec = tie.close (tie.spec (λ c. simp (eq-eqb _ _ c.if1.true)) (λ c. simp (ne_eqb _ _ c.if1.false)))
+pub is_wrong_count_spec : {M : Type 1} → statement M
+is_wrong_count_spec = tie.close (tie.spec (λ c. simp (eq-eqb _ _ c.if-count-eq1.true)) (λ c. simp (ne_eqb _ _ c.if-count-eq1.false)))

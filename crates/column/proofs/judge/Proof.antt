@@ -9,10 +9,10 @@ use Rattle.column.proofs.judge.Tie as tie
 
 returns : tie.Need-returns
 returns c =
-    let a = c.before.before.before.before.args in
-    let h : c.before.before.wide.result ≡ a.start = c.before.before.wide.ensures.0 in
-    let t : c.before.wide2.result ≡ a.thickness = c.before.wide2.ensures.0 in
+    let a = c.args in
+    let h : c.wide.result ≡ a.start = c.wide.ensures.0 in
+    let t : c.wide-2.result ≡ a.thickness = c.wide-2.ensures.0 in
     (c.inside_of.ensures.0 ∙ ap₂ (inside a.column.now) h t ∙ sym (inside_is a.column.now a.start a.thickness), omega (arith, c.inside_of.ensures.1))
 
-pub judge-spec : {M : Type 1} → statement M
-judge-spec = tie.close (tie.spec (λ c κs. search rules) (λ c κs. search rules) (λ c κs. search rules) returns)
+pub judge_spec : {M : Type 1} → statement M
+judge_spec = tie.close (tie.spec (λ c κs. search rules) (λ c κs. search rules) (λ c κs. search rules) returns)

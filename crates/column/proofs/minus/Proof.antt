@@ -4,8 +4,8 @@ use Rattle.column.proofs.Signed.{difference-fits, difference-read}
 use Rattle.column.proofs.minus.Statement.{statement}
 use Rattle.column.proofs.minus.Tie as tie
 
-pub minus-spec : {M : Type 1} → statement M
-minus-spec =
+pub minus_spec : {M : Type 1} → statement M
+minus_spec =
     tie.close
     (tie.spec
     (λ c. search rules)

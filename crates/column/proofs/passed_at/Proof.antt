@@ -9,25 +9,25 @@ use Rattle.column.proofs.Inside.{passed-more, passed-end}
 use Rattle.column.proofs.passed_at.Statement.{statement}
 use Rattle.column.proofs.passed_at.Tie as tie
 
-abbrev invariant-loop : tie.invariant-loop
+abbrev invariant-loop : tie.invariant-loop-i
 invariant-loop column h n₀ i₀ n i = (i ≤ length column) × (n + passed (drop i column) h ≡ passed column h) × (n ≤ i)
 
-abbrev decreases-loop : tie.decreases-loop
+abbrev decreases-loop : tie.decreases-loop-i
 decreases-loop column h n₀ i₀ n i = length column - i
 
-loop-again : tie.Need-loop-preserved invariant-loop decreases-loop
+loop-again : tie.Need-loop-i-preserved invariant-loop decreases-loop
 loop-again c =
     let s = c.before.before.before.before.before in
-    let e = passed-more s.args.column.now s.args.h c.before.before.before.loop.i (omega arith) in
+    let e = passed-more s.args.column.now s.args.h c.loop-i.i (omega arith) in
     omega arith
 
 returns : tie.Need-returns invariant-loop decreases-loop
 returns c =
     let s = c.before.before.before in
-    omega (arith, passed-end s.args.column.now s.args.h c.before.loop.i (omega arith))
+    omega (arith, passed-end s.args.column.now s.args.h c.loop-i.i (omega arith))
 
-pub passed-at-spec : {M : Type 1} → statement M
-passed-at-spec =
+pub passed_at_spec : {M : Type 1} → statement M
+passed_at_spec =
     tie.close
     (tie.spec
     invariant-loop

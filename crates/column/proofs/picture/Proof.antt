@@ -31,23 +31,23 @@ module _ (N T : ℕ) (bs : List ℕ) (z : ℤ) (t : ℕ) {made : Made} (j : Judg
       ap (λ (s : Settings). decided (column_checks s.height bs ++ layer_checks s.height s.members z t) (judgement bs z t)) (j.good s e).0
       ∙ ap (λ (o : Option Numbered). told_by o (judgement bs z t)) (passed j (column_checks N bs ++ layer_checks N T z t) s e)
 
-returns : tie.Need-returns
-returns c = bad _ _ _ _ _ c.before.before.before.new.ensures c.before.made.given.0.0 c.before.made.given.1
+returns : tie.Need-returns-in-Bad
+returns c = bad _ _ _ _ _ c.new-made.ensures c.in-Bad.refusal c.in-Bad.is
 
-returns-2 : tie.Need-returns-2
+returns-2 : tie.Need-returns-in-Good
 returns-2 c =
-    let s = c.before.before.before.before.before.before in
-    c.picture-of.ensures
-    ∙ good _ _ _ _ _ c.before.before.before.before.new.ensures _ c.before.before.made2.given.1
+    let s = c.before.before.before.before in
+    c.picture_of.ensures
+    ∙ good _ _ _ _ _ c.new-made.ensures _ c.in-Good.is
     ∙ ap (λ (z : ℤ). picture_answer s.args.height s.args.members s.args.column.now z s.args.thickness) (to_z-of_z w32 s.args.start s.ranges.start)
 
-pub picture-spec : {M : Type 1} → statement M
-picture-spec =
+pub picture_spec : {M : Type 1} → statement M
+picture_spec =
     tie.close
     (tie.spec
     (λ c κs. search rules)
     (λ c. search rules)
     (λ c. search rules)
-    (λ c κs. (c.before.before.before.new.ensures.good _ c.before.made2.given.1).1)
+    (λ c κs. (c.new-made.ensures.good _ c.in-Good.is).1)
     returns
     returns-2)

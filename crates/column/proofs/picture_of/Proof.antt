@@ -31,6 +31,7 @@ use Rattle.column.proofs.picture_of.Statement.{statement}
 use Rattle.column.proofs.picture_of.Tie as tie
 
 -- at the column's own checks
+
 stopped : (N T : ℕ) (bs : List ℕ) (z : ℤ) (t : ℕ) (x : Judged) (r : Refusal) → said_by (Refused r) ≡ first (column_checks N bs)
     → refusal r ≡ decided (column_checks N bs ++ layer_checks N T z t) x
 stopped N T bs z t x r e = decided-said (column_checks N bs) (layer_checks N T z t) x r.reason r.place e
@@ -49,71 +50,71 @@ module _ (N T : ℕ) (bs : List ℕ) (z : ℤ) (t : ℕ) (x : Judged) (fine : fi
   unfolding layer_checks
   in_order e a = sym (decided-passed (column_checks N bs) (layer_checks N T z t) x fine ∙ simp (e, a))
 
-module _ (c : tie.After-datum-of) where
+module _ (c : tie.After-datum_of-h) where
   abbrev s : tie.Start
-  s = c.before.before.before.before.before
+  s = c.before.before.before.before
 
   fine : first (column_checks s.args.s.height s.args.column.now) ≡ none
-  fine = sym c.before.before.before.check-column.ensures ∙ ap said_by c.before.enum_told.given.1
+  fine = sym c.check_column-order.ensures ∙ ap said_by c.in_default.is
 
   -- the tests on h are tests on the start
-  h-is : c.datum-of.result ≡ datum s.args.start
-  h-is = c.datum-of.ensures ∙ datum-back s.args.start s.fits.start
+  h-is : c.datum_of-h.result ≡ datum s.args.start
+  h-is = c.datum_of-h.ensures ∙ datum-back s.args.start s.ranges.start
 
-returns : tie.Need-returns
+returns : tie.Need-returns-in-Refused
 returns c =
-    stopped _ _ _ _ _ _ c.before.order.given.0.0 (ap said_by (sym c.before.order.given.1) ∙ c.before.before.before.check-column.ensures)
+    stopped _ _ _ _ _ _ c.in-Refused.refusal (ap said_by (sym c.in-Refused.is) ∙ c.check_column-order.ensures)
 
-returns-2 : tie.Need-returns-2
+returns-2 : tie.Need-returns-then-h-s-lt33
 returns-2 c =
     let d = c.before.before.before in
     let p = (s d).requires in
-    ap (λ (r : Refusal). refusal r) c.refusal-at.ensures
+    ap (λ (r : Refusal). refusal r) c.refusal_at.ensures
     ∙ out-start _ _ _ _ _ _ (fine d) (start-low _ _ _ p.low (omega (arith, p.greatest, p.thin, p.order)) (omega (arith, p.greatest, p.thick)) (omega (arith, h-is d, p.greatest)))
 
-returns-3 : tie.Need-returns-3
+returns-3 : tie.Need-returns-then-s-h
 returns-3 c =
     let d = c.before.before.before.before.before in
     let p = (s d).requires in
-    ap (λ (r : Refusal). refusal r) c.refusal-at2.ensures
+    ap (λ (r : Refusal). refusal r) c.refusal_at-then-s-h.ensures
     ∙ out-start _ _ _ _ _ _ (fine d) (start-high _ _ _ p.low (omega (arith, p.greatest, p.thin, p.order)) (omega (arith, p.greatest, p.thick)) (omega (arith, h-is d, p.greatest)) (omega (arith, h-is d, p.greatest)))
 
-inside : (d : tie.After-datum-of) → 33 ≤ d.datum-of.result + (s d).args.s.tmax → d.datum-of.result ≤ (s d).args.s.height + (s d).args.s.tmax + 30
+inside : (d : tie.After-datum_of-h) → 33 ≤ d.datum_of-h.result + (s d).args.s.tmax → d.datum_of-h.result ≤ (s d).args.s.height + (s d).args.s.tmax + 30
     → start_outside (s d).args.s.height (s d).args.s.members (s d).args.start ≡ false
 inside d l u =
     let p = (s d).requires in
     start-in _ _ _ p.low (omega (arith, p.greatest, p.thin, p.order)) (omega (arith, p.greatest, p.thick)) (omega (arith, h-is d, p.greatest)) (omega (arith, h-is d, p.greatest))
 
-returns-4 : tie.Need-returns-4
+returns-4 : tie.Need-returns-then-not-is_allowed
 returns-4 c =
     let d = c.before.before.before.before.before.before.before in
-    ap (λ (r : Refusal). refusal r) c.refusal-at3.ensures
-    ∙ out-thickness _ _ _ _ _ _ (fine d) (inside d (omega arith) (omega arith)) (sym c.before.before.is-allowed.ensures ∙ not-true _ c.before.if3.true)
+    ap (λ (r : Refusal). refusal r) c.refusal_at-then-not-is_allowed.ensures
+    ∙ out-thickness _ _ _ _ _ _ (fine d) (inside d (omega arith) (omega arith)) (sym c.is_allowed.ensures ∙ c.if-not-is_allowed.true)
 
 -- what was judged is of a thickness in T
-module _ (c : tie.After-judge) where
-  abbrev d : tie.After-datum-of
+module _ (c : tie.After-judge-inside) where
+  abbrev d : tie.After-datum_of-h
   d = c.before.before.before.before.before.before.before
 
   in-set : allowed (s d).args.s.members (s d).args.thickness ≡ true
-  in-set = sym c.before.before.is-allowed.ensures ∙ not-false _ c.before.if3.false
+  in-set = sym c.is_allowed.ensures ∙ c.if-not-is_allowed.false
 
-  counted : c.judge.result ≡ inside_count (s d).args.column.now (s d).args.start (s d).args.thickness
+  counted : c.judge-inside.result ≡ inside_count (s d).args.column.now (s d).args.start (s d).args.thickness
   counted =
       let a = (s d).args in
-      let z : height_of d.datum-of.result ≡ a.start =
-      ap height_of (h-is d) ∙ height-datum a.start (omega (arith, h-is d, (s d).pre.thick)) in
-      c.judge.ensures.0 ∙ ap (λ (x : ℤ). inside_count a.column.now x a.thickness) z
+      let z : height_of d.datum_of-h.result ≡ a.start =
+      ap height_of (h-is d) ∙ height-datum a.start (omega (arith, h-is d, (s d).requires.thick)) in
+      c.judge-inside.ensures.0 ∙ ap (λ (x : ℤ). inside_count a.column.now x a.thickness) z
 
-returns-5 : tie.Need-returns-5
+returns-5 : tie.Need-returns
 returns-5 c =
     let j = c.before.before.before in
-    let difference = to_z-of_z w32 c.difference-of.result (sfits_of c.difference-of.type-inv) ∙ c.difference-of.ensures in
-    ap done (derived _ _ _ _ (counted j) c.before.before.fills.ensures c.before.share-of.ensures difference)
+    let difference = to_z-of_z w32 c.difference_of.result (sfits_of c.difference_of.type_inv) ∙ c.difference_of.ensures in
+    ap done (derived _ _ _ _ (counted j) c.fills.ensures c.share_of.ensures difference)
     ∙ in_order _ _ _ _ _ _ (fine (d j)) (inside (d j) (omega arith) (omega arith)) (in-set j)
 
-pub picture-of-spec : {M : Type 1} → statement M
-picture-of-spec =
+pub picture_of_spec : {M : Type 1} → statement M
+picture_of_spec =
     tie.close
     (tie.spec
     (λ c κs. search rules)
@@ -132,9 +133,9 @@ picture-of-spec =
     (λ c κs. search rules)
     returns-4
     (λ c. search rules)
-    (λ c. omega (arith, allowed-to _ _ (sym c.before.is-allowed.ensures ∙ not-false _ c.if3.false)))
+    (λ c. omega (arith, allowed-to _ _ (sym c.is_allowed.ensures ∙ c.if-not-is_allowed.false)))
     (λ c κs. search rules)
-    (λ c κs. c.judge.ensures.1)
-    (λ c κs. c.before.judge.ensures.1)
-    (λ c κs. (c.before.before.judge.ensures.1, allowed-to _ _ (in-set c.before.before)))
+    (λ c κs. c.judge-inside.ensures.1)
+    (λ c κs. c.judge-inside.ensures.1)
+    (λ c κs. (c.judge-inside.ensures.1, allowed-to _ _ (in-set c.before.before)))
     returns-5)

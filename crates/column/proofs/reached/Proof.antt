@@ -5,8 +5,8 @@ use Rattle.column.proofs.Inside.{reached-yes, reached-no}
 use Rattle.column.proofs.reached.Statement.{statement}
 use Rattle.column.proofs.reached.Tie as tie
 
-pub reached-spec : {M : Type 1} → statement M
-reached-spec =
+pub reached_spec : {M : Type 1} → statement M
+reached_spec =
     tie.close
     (tie.spec
     (λ c κs. search rules)

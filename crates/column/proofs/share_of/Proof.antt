@@ -4,5 +4,5 @@ use borrow.Author.Rules.{rules}
 use Rattle.column.proofs.share_of.Statement.{statement}
 use Rattle.column.proofs.share_of.Tie as tie
 
-pub share-of-spec : {M : Type 1} → statement M
-share-of-spec = tie.close (tie.spec (λ c. search rules) (λ c. omega arith) (λ c. omega arith))
+pub share_of_spec : {M : Type 1} → statement M
+share_of_spec = tie.close (tie.spec (λ c. search rules) (λ c. omega arith) (λ c. omega arith))

@@ -8,12 +8,12 @@ use Rattle.plate.specs.declared.refusal.Checked.TheVariants.{Refused}
 use Rattle.motor.proofs.check_step.Statement.{statement}
 use Rattle.motor.proofs.check_step.Tie as tie
 
-pub check-step-spec : {M : Type 1} → statement M
-check-step-spec =
+pub check_step_spec : {M : Type 1} → statement M
+check_step_spec =
     tie.close
     (tie.spec
     (λ c κs. search rules)
-    (λ c. ap (λ (r : Refusal). said_by (Refused r)) c.refusal-at.ensures ∙ simp (lt-ltb _ _ c.before.if1.true))
+    (λ c. ap (λ (r : Refusal). said_by (Refused r)) c.refusal_at.ensures ∙ simp (lt-ltb _ _ c.if-step-lt-LEAST_STEP.true))
     (λ c κs. search rules)
-    (λ c. ap (λ (r : Refusal). said_by (Refused r)) c.refusal-at2.ensures ∙ simp (le-ltb _ _ c.before.before.if1.false, lt-ltb _ _ c.before.if2.true))
-    (λ c. simp (le-ltb _ _ c.before.if1.false, le-ltb _ _ c.if2.false)))
+    (λ c. ap (λ (r : Refusal). said_by (Refused r)) c.refusal_at-then-step-gt-GREATEST_STEP.ensures ∙ simp (le-ltb _ _ c.if-step-lt-LEAST_STEP.false, lt-ltb _ _ c.if-step-gt-GREATEST_STEP.true))
+    (λ c. simp (le-ltb _ _ c.if-step-lt-LEAST_STEP.false, le-ltb _ _ c.if-step-gt-GREATEST_STEP.false)))

@@ -25,6 +25,7 @@ use Rattle.motor.proofs.motor_height.Statement.{statement}
 use Rattle.motor.proofs.motor_height.Tie as tie
 
 -- the divisor 8.0, by its bits
+
 eight : of_bits binary32 0x4100_0000 ≡ fin false 1 (pos 3)
 unfolding of_bits
 eight = refl
@@ -51,13 +52,13 @@ module _ (c : tie.Start) where
   highest e = ap (λ (x : ℤ). lt_z (pos 543) x) (sym back) ∙ e
 
 -- the step passed
-passed : (c : tie.After-enum-told) → none ≡ first (step_check (s c.before.before.before) ∷ [])
-passed c = ap said_by (sym c.enum_told.given.1) ∙ c.before.before.check-step.ensures
+passed : (c : tie.In_default) → none ≡ first (step_check (s c.before.before) ∷ [])
+passed c = ap said_by (sym c.in_default.is) ∙ c.check_step-checked.ensures
 
 -- past the tests
-module _ (c : tie.Else2) where
+module _ (c : tie.Else-z-gt-HIGHEST) where
   abbrev start : tie.Start
-  start = c.before.before.before.before.before
+  start = c.before.before.before.before
 
   step-fine : (1 ≤ s start) × (s start ≤ 8192)
   step-fine = step_in (s start) (passed c.before.before)
@@ -75,10 +76,10 @@ module _ (c : tie.Else2) where
       ∙ ap (λ (x : ℤ). z start *ℤ x) (to_z_pos w32 (s start) (omega (arith, step-fine.1)))
 
   low : lt_z (z start) (negsuc 30) ≡ false
-  low = lowest start c.before.if1.false
+  low = lowest start c.if-z-lt-LOWEST.false
 
   high : lt_z (pos 543) (z start) ≡ false
-  high = highest start c.if2.false
+  high = highest start c.if-z-gt-HIGHEST.false
 
   small : nat_abs product < 2 ^ 24
   small = product_small (s start) (z start) step-fine.0 step-fine.1 low high
@@ -97,27 +98,27 @@ module _ (c : tie.Else2) where
       ∙ ap done (quotient product small 3)
       ∙ sym (height-is (s start) (z start) step-fine.0 step-fine.1 low high)
 
-pub motor-height-spec : {M : Type 1} → statement M
-motor-height-spec =
+pub motor_height_spec : {M : Type 1} → statement M
+motor_height_spec =
     tie.close
     (tie.spec
     (λ c κs. search rules)
     (λ c. search rules)
     (λ c. (
-      step-out (s c.before.before.before.before) (z c.before.before.before.before) c.before.checked.given.0.0 (ap said_by (sym c.before.checked.given.1) ∙ c.before.before.before.check-step.ensures),
+      step-out (s c.before.before) (z c.before.before) c.in-Refused.refusal (ap said_by (sym c.in-Refused.is) ∙ c.check_step-checked.ensures),
       tt,
     ))
     (λ c. search rules)
     (λ c.
     let p = step_in _ (passed c.before) in
-    (simp (le-ltb (s c.before.before.before.before) 1 p.0, le-ltb 8192 (s c.before.before.before.before) p.1, lowest c.before.before.before.before c.if1.true), tt))
+    (simp (le-ltb (s c.before.before.before) 1 p.0, le-ltb 8192 (s c.before.before.before) p.1, lowest c.before.before.before c.if-z-lt-LOWEST.true), tt))
     (λ c.
     let p = step_in _ (passed c.before.before) in (
       simp (
-        le-ltb (s c.before.before.before.before.before) 1 p.0,
-        le-ltb 8192 (s c.before.before.before.before.before) p.1,
-        lowest c.before.before.before.before.before c.before.if1.false,
-        highest c.before.before.before.before.before c.if2.true,
+        le-ltb (s c.before.before.before.before) 1 p.0,
+        le-ltb 8192 (s c.before.before.before.before) p.1,
+        lowest c.before.before.before.before c.if-z-lt-LOWEST.false,
+        highest c.before.before.before.before c.if-z-gt-HIGHEST.true,
       ),
       tt,
     ))

@@ -8,10 +8,10 @@ use Rattle.plate.specs.declared.refusal.Checked.TheVariants.{Refused}
 use Rattle.record.proofs.check_tail.Statement.{statement}
 use Rattle.record.proofs.check_tail.Tie as tie
 
-pub check-tail-spec : {M : Type 1} → statement M
-check-tail-spec =
+pub check_tail_spec : {M : Type 1} → statement M
+check_tail_spec =
     tie.close
     (tie.spec
     (λ c κs. search rules)
-    (λ c. ap (λ (r : Refusal). said_by (Refused r)) c.refusal-at.ensures ∙ simp (lt-ltb _ _ c.before.if1.true))
-    (λ c. simp (le-ltb _ _ c.if1.false)))
+    (λ c. ap (λ (r : Refusal). said_by (Refused r)) c.refusal_at.ensures ∙ simp (lt-ltb _ _ c.if-end-input.true))
+    (λ c. simp (le-ltb _ _ c.if-end-input.false)))

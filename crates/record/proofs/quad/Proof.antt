@@ -4,8 +4,8 @@ use Rattle.record.specs.Bytes.{le32}
 use Rattle.record.proofs.quad.Statement.{statement}
 use Rattle.record.proofs.quad.Tie as tie
 
-pub quad-spec : {M : Type 1} → statement M
-quad-spec =
+pub quad_spec : {M : Type 1} → statement M
+quad_spec =
     tie.close
     (tie.spec
     (λ c κs. search rules)

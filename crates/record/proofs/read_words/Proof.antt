@@ -11,14 +11,14 @@ use Rattle.record.specs.Bytes.{words}
 use Rattle.record.proofs.read_words.Statement.{statement}
 use Rattle.record.proofs.read_words.Tie as tie
 
-abbrev invariant-loop : tie.invariant-loop
+abbrev invariant-loop : tie.invariant-loop-i
 invariant-loop input start out₀ i₀ out i = (i ≤ length out) × (length out ≡ length out₀) × (take i out ≡ words input start i)
 
-abbrev decreases-loop : tie.decreases-loop
+abbrev decreases-loop : tie.decreases-loop-i
 decreases-loop input start out₀ i₀ out i = length out - i
 
-pub read-words-spec : {M : Type 1} → statement M
-read-words-spec =
+pub read_words_spec : {M : Type 1} → statement M
+read_words_spec =
     tie.close
     (tie.spec
     invariant-loop
@@ -30,7 +30,7 @@ read-words-spec =
     (λ c. search rules)
     (λ c. simp length-set (omega arith))
     (λ c. unfold words in
-    let l = c.before.before.loop in
+    let l = c.loop-i in
     let lt : l.i < length l.out = omega arith in (
       simp length-set (omega arith),
       simp length-set (omega arith),
@@ -39,7 +39,7 @@ read-words-spec =
     ))
     (λ c. search rules)
     (λ c.
-    let l = c.before.loop in
-    let a = c.before.before.before.before.args in
+    let l = c.loop-i in
+    let a = c.args in
     let e : l.i ≡ length a.out.now = omega arith in
     sym (take_all l.i l.out (omega arith)) ∙ l.invariant.2 ∙ ap (words a.input.now a.start) e))

@@ -12,10 +12,10 @@ use Rattle.record.proofs.Stores.{stored-behind, numbers-append}
 use Rattle.record.proofs.store_numbers.Statement.{statement}
 use Rattle.record.proofs.store_numbers.Tie as tie
 
-abbrev invariant-loop : tie.invariant-loop
+abbrev invariant-loop : tie.invariant-loop-i
 invariant-loop out₀ at numbers next₀ i₀ out next i = (i ≤ length numbers) × (next ≡ at + 2 * i) × (length out ≡ length out₀) × (out ≡ sets out₀ at (bytes_of (take i numbers)))
 
-abbrev decreases-loop : tie.decreases-loop
+abbrev decreases-loop : tie.decreases-loop-i
 decreases-loop out₀ at numbers next₀ i₀ out next i = length numbers - i
 
 -- one number more
@@ -35,29 +35,29 @@ one_more out numbers at i l small =
     ∙ stored-behind out at (bytes_of (take i numbers)) (bytes_of (n ∷ []))
     ∙ ap (sets out at) (sym (numbers-append (take i numbers) (n ∷ [])) ∙ ap bytes_of (sym (take-suc numbers i 0 l) ∙ ap (λ (k : ℕ). take k numbers) count))
 
-loop-holds : tie.Need-loop-init invariant-loop decreases-loop
+loop-holds : tie.Need-loop-i-init invariant-loop decreases-loop
 unfolding bytes_of
 loop-holds c = (omega arith, omega arith, refl, refl)
 
-loop-again : tie.Need-loop-preserved invariant-loop decreases-loop
+loop-again : tie.Need-loop-i-preserved invariant-loop decreases-loop
 loop-again c =
-    let l = c.before.before.loop in
-    let a = c.before.before.before.args in
+    let l = c.loop-i in
+    let a = c.args in
     let n = get_or a.numbers.now l.i 0 in (
       omega arith,
       omega (arith, l.invariant.1),
       length-set (set l.out l.next (n % 256)) (l.next + 1) (n / 256) ∙ length-set l.out l.next (n % 256) ∙ l.invariant.2,
-      rw (l.invariant.3, l.invariant.1) (one_more a.out.now a.numbers.now a.at l.i (omega arith) (omega (arith, c.shared-slice-known.given l.i))),
+      rw (l.invariant.3, l.invariant.1) (one_more a.out.now a.numbers.now a.at l.i (omega arith) (omega (arith, c.shared_slice_known-1.given l.i))),
     )
 
 returns : tie.Need-returns invariant-loop decreases-loop
 returns c =
-    let l = c.before.loop in
-    let a = c.before.before.args in
+    let l = c.loop-i in
+    let a = c.args in
     l.invariant.3 ∙ ap (λ (ns : List ℕ). sets a.out.now a.at (bytes_of ns)) (take_all l.i a.numbers.now (omega arith))
 
-pub store-numbers-spec : {M : Type 1} → statement M
-store-numbers-spec =
+pub store_numbers_spec : {M : Type 1} → statement M
+store_numbers_spec =
     tie.close
     (tie.spec
     invariant-loop
@@ -67,12 +67,12 @@ store-numbers-spec =
     (λ c. search rules)
     (λ c. search rules)
     (λ c. omega arith)
-    (λ c. omega (arith, c.shared-slice-known.given c.before.before.loop.i))
+    (λ c. omega (arith, c.shared_slice_known-1.given c.loop-i.i))
     (λ c. omega arith)
-    (λ c. let l = c.before.before.loop in omega (arith, length-set l.out l.next (get_or c.before.before.before.args.numbers.now l.i 0 % 256), l.invariant.2))
+    (λ c. let l = c.loop-i in omega (arith, length-set l.out l.next (get_or c.args.numbers.now l.i 0 % 256), l.invariant.2))
     (λ c. omega arith)
     (λ c. search rules)
     (λ c. search rules)
     loop-again
-    (λ c. c.before.loop.invariant.2)
+    (λ c. c.loop-i.invariant.2)
     returns)

@@ -6,8 +6,8 @@ use Rattle.record.proofs.Bytes.{none_left}
 use Rattle.record.proofs.word_after.Statement.{statement}
 use Rattle.record.proofs.word_after.Tie as tie
 
-pub word-after-spec : {M : Type 1} → statement M
-word-after-spec =
+pub word_after_spec : {M : Type 1} → statement M
+word_after_spec =
     tie.close
     (tie.spec
     (λ c κs. search rules)

@@ -8,24 +8,24 @@ use Rattle.record.proofs.Stores.{laid, unlaid}
 use Rattle.record.proofs.write_numbers.Statement.{statement}
 use Rattle.record.proofs.write_numbers.Tie as tie
 
-returns : tie.Need-returns
+returns : tie.Need-returns-then-out-at
 returns c =
-    let a = c.before.before.before.args in
+    let a = c.args in
     sym (unlaid a.out.now a.at (bytes_of a.numbers.now) (omega arith))
 
-returns-2 : tie.Need-returns-2
+returns-2 : tie.Need-returns-then-out-at-2
 returns-2 c =
-    let a = c.before.before.before.before.args in
+    let a = c.args in
     sym (unlaid a.out.now a.at (bytes_of a.numbers.now) (omega (arith, length-bytes_of a.numbers.now)))
 
-returns-3 : tie.Need-returns-3
+returns-3 : tie.Need-returns
 returns-3 c =
     let s = c.before.before in
-    let a = s.before.before.before.before.before.before.args in
-    s.store-numbers.ensures ∙ sym (laid a.out.now a.at (bytes_of a.numbers.now) (omega (arith, length-bytes_of a.numbers.now)))
+    let a = s.args in
+    s.store_numbers.ensures ∙ sym (laid a.out.now a.at (bytes_of a.numbers.now) (omega (arith, length-bytes_of a.numbers.now)))
 
-pub write-numbers-spec : {M : Type 1} → statement M
-write-numbers-spec =
+pub write_numbers_spec : {M : Type 1} → statement M
+write_numbers_spec =
     tie.close
     (tie.spec
     returns

@@ -8,11 +8,11 @@ use Rattle.sheets.proofs.Lists.{get_or-within}
 use Rattle.sheets.proofs.entry_at.Statement.{statement}
 use Rattle.sheets.proofs.entry_at.Tie as tie
 
-pub entry-at-spec : {M : Type 1} → statement M
-entry-at-spec =
+pub entry_at_spec : {M : Type 1} → statement M
+entry_at_spec =
     tie.close
     (tie.spec
-    (λ c. let a = c.before.args in sym (get_or-eq_default a.errors.now missing {n = a.at} (omega arith)))
+    (λ c. let a = c.args in sym (get_or-eq_default a.errors.now missing {n = a.at} (omega arith)))
     (λ c. search rules)
     (λ c. search rules)
-    (λ c. let a = c.before.before.args in get_or-within a.errors.now a.at 0 missing (omega arith)))
+    (λ c. let a = c.args in get_or-within a.errors.now a.at 0 missing (omega arith)))

@@ -6,8 +6,8 @@ use borrow.Author.Rules.{rules}
 use Rattle.sheets.proofs.entry_index.Statement.{statement}
 use Rattle.sheets.proofs.entry_index.Tie as tie
 
-pub entry-index-spec : {M : Type 1} → statement M
-entry-index-spec =
+pub entry_index_spec : {M : Type 1} → statement M
+entry_index_spec =
     tie.close
     (tie.spec
     (λ c. search rules)

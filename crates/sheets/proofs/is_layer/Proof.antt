@@ -31,15 +31,15 @@ module _ (N T greatest row t : ℕ) (member : allowed T t ≡ true) where
       go (no u) = le-ltb (row + 1) (N + greatest + t) (omega arith) ∙ sym (shape-high N T (at_row greatest row - t) t (omega (arith, thin)))
 
 -- past the test on the thickness
-member_of : (c : tie.Else1) → allowed c.before.before.args.members c.before.before.args.t ≡ true
-member_of c = sym c.before.is-allowed.ensures ∙ not-false _ c.if1.false
+member_of : (c : tie.Else-not-is_allowed) → allowed c.args.members c.args.t ≡ true
+member_of c = sym c.is_allowed.ensures ∙ c.if-not-is_allowed.false
 
-pub is-layer-spec : {M : Type 1} → statement M
-is-layer-spec =
+pub is_layer_spec : {M : Type 1} → statement M
+is_layer_spec =
     tie.close
     (tie.spec
     (λ c κs. search rules)
-    (λ c. sym (shape-barred _ _ _ _ (sym c.before.is-allowed.ensures ∙ not-true _ c.if1.true)))
+    (λ c. sym (shape-barred _ _ _ _ (sym c.is_allowed.ensures ∙ c.if-not-is_allowed.true)))
     (λ c. search rules)
     (λ c. low _ _ _ _ _ (member_of c.before) (omega arith))
     (λ c. search rules)

@@ -17,5 +17,5 @@ under tmax h l = go (dec_lt (32 - h) tmax)
     go (yes u) = lt-ltb (32 - h) tmax u ∙ sym (start-in tmax h (omega arith) l)
     go (no u) = le-ltb (32 - h) tmax (omega arith) ∙ sym (start-low tmax h (omega arith))
 
-pub is-start-spec : {M : Type 1} → statement M
-is-start-spec = tie.close (tie.spec (λ c. sym (start-high _ _ c.if1.true)) (λ c. under _ _ (omega arith)))
+pub is_start_spec : {M : Type 1} → statement M
+is_start_spec = tie.close (tie.spec (λ c. sym (start-high _ _ c.if-h-gt32.true)) (λ c. under _ _ (omega arith)))

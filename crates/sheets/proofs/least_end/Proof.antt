@@ -17,23 +17,23 @@ no-entries : (errors : List ℕ) (N tmax most n : ℕ) → tmax ≡ 0 → IsLeas
 unfolding least_from best_of
 no-entries errors N tmax most n e = rw e (record { error-is = refl; place_is = refl })
 
-least-entry-requires : tie.Need-least-entry-requires
+least-entry-requires : tie.Need-least_entry-requires
 least-entry-requires c κs =
-    let a = c.before.before.before.args in
+    let a = c.args in
     let r : a.height + a.tmax - 1 ≤ 131069 = omega arith in
     let w : a.most + 1 ≤ 65536 = omega arith in
-    omega (arith, c.entry-index.ensures, mul-le-mul r w)
+    omega (arith, c.entry_index-from.ensures, mul-le-mul r w)
 
-returns-2 : tie.Need-returns-2
+returns-2 : tie.Need-returns
 returns-2 c =
-    let a = c.before.before.before.before.args in
-    subst (λ (i : ℕ). IsLeast c.least-entry.result (least_from a.errors.now i (a.most + 1) a.tmax)) c.before.entry-index.ensures c.least-entry.ensures
+    let a = c.args in
+    subst (λ (i : ℕ). IsLeast c.least_entry.result (least_from a.errors.now i (a.most + 1) a.tmax)) c.entry_index-from.ensures c.least_entry.ensures
 
-pub least-end-spec : {M : Type 1} → statement M
-least-end-spec =
+pub least_end_spec : {M : Type 1} → statement M
+least_end_spec =
     tie.close
     (tie.spec
-    (λ c. no-entries _ _ _ _ _ c.if1.true)
+    (λ c. no-entries _ _ _ _ _ c.if-tmax-eq0.true)
     (λ c. search rules)
     (λ c. search rules)
     (λ c κs. search rules)

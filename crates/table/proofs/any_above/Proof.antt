@@ -11,17 +11,17 @@ use Rattle.table.specs.Limits.{above, NoneAbove}
 use Rattle.table.proofs.any_above.Statement.{statement}
 use Rattle.table.proofs.any_above.Tie as tie
 
-abbrev invariant-loop : tie.invariant-loop
+abbrev invariant-loop : tie.invariant-loop-j
 invariant-loop table limits base next width end found₀ j₀ found j =
     (j ≤ width) × (end ≡ width) × (found ≡ false → NoneAbove limits table base j × NoneAbove limits table next j)
 
-abbrev decreases-loop : tie.decreases-loop
+abbrev decreases-loop : tie.decreases-loop-j
 decreases-loop table limits base next width end found₀ j₀ found j = width - j
 
-loop-again : tie.Need-loop-preserved invariant-loop decreases-loop
+loop-again : tie.Need-loop-j-preserved invariant-loop decreases-loop
 unfolding above
 loop-again c =
-    let l = c.before.before.before.before.loop.invariant in (
+    let l = c.loop-j.invariant in (
       omega (arith, l.1),
       l.1,
       λ z.
@@ -31,14 +31,14 @@ loop-again c =
           (below_more _ _ w.0 f.1, below_more _ _ w.1 e.1),
     )
 
-pub any-above-spec : {M : Type 1} → statement M
-any-above-spec =
+pub any_above_spec : {M : Type 1} → statement M
+any_above_spec =
     tie.close
     (tie.spec
     invariant-loop
     decreases-loop
     (λ c κs. search rules)
-    (λ c. (omega arith, omega (arith, c.row-end.ensures), λ z. (below_none _, below_none _)))
+    (λ c. (omega arith, omega (arith, c.row_end-end.ensures), λ z. (below_none _, below_none _)))
     (λ c. search rules)
     (λ c. search rules)
     (λ c. search rules)
@@ -50,4 +50,4 @@ any-above-spec =
     (λ c. search rules)
     (λ c. search rules)
     loop-again
-    (λ c. λ z. let w = c.before.loop.invariant.2 z in (λ j u. w.0 j (omega arith), λ j u. w.1 j (omega arith))))
+    (λ c. λ z. let w = c.loop-j.invariant.2 z in (λ j u. w.0 j (omega arith), λ j u. w.1 j (omega arith))))

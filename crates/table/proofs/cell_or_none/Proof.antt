@@ -6,5 +6,5 @@ use lib.ListN.{get_or-eq_default}
 use Rattle.table.proofs.cell_or_none.Statement.{statement}
 use Rattle.table.proofs.cell_or_none.Tie as tie
 
-pub cell-or-none-spec : {M : Type 1} → statement M
-cell-or-none-spec = tie.close (tie.spec (λ c. search rules) (λ c. search rules) (λ c. refl) (λ c. let a = c.before.args in sym (get_or-eq_default a.table.now 0 {n = a.at} (omega arith))))
+pub cell_or_none_spec : {M : Type 1} → statement M
+cell_or_none_spec = tie.close (tie.spec (λ c. search rules) (λ c. search rules) (λ c. refl) (λ c. let a = c.args in sym (get_or-eq_default a.table.now 0 {n = a.at} (omega arith))))

@@ -26,35 +26,35 @@ module _ (held : Held) where
   unfolding short
   is-long h = simp (le-ltb _ _ h)
 
-returns : tie.Need-returns
+returns : tie.Need-returns-then-table-s
 unfolding clearing
 returns c =
-    let n = c.before.before.before.before.before.before in
+    let n = c.before.before.before.before in
     let s = n.before.before in
-    let e = c.before.before.before.before.made2.given in
-    let g = ap (λ (s : Settings). s.cells) (n.new.ensures.good _ e.1).0 in
+    let e = c.in-Good in
+    let g = ap (λ (s : Settings). s.cells) (n.new-made.ensures.good _ e.is).0 in
     let h : length s.args.table.now < cells s.args.height s.args.members = omega arith in
-    judges-bad _ _ _ _ _ (ap Bad c.refusal-at.ensures) (is-short _ h ∙ passed n.new.ensures _ _ e.1)
+    judges-bad _ _ _ _ _ (ap Bad c.refusal_at.ensures) (is-short _ h ∙ passed n.new-made.ensures _ _ e.is)
 
-returns-2 : tie.Need-returns-2
+returns-2 : tie.Need-returns-in-Bad
 unfolding clearing
 returns-2 c =
-    let m = c.before.made.given in
-    judges-bad _ _ _ _ _ refl (stopped c.before.before.before.new.ensures _ m.0.0 m.1)
+    let m = c.in-Bad in
+    judges-bad _ _ _ _ _ refl (stopped c.new-made.ensures _ m.refusal m.is)
 
-returns-3 : tie.Need-returns-3
+returns-3 : tie.Need-returns-else-table-s
 unfolding clearing
 returns-3 c =
-    let n = c.before.before.before.before.before in
+    let n = c.before.before.before in
     let s = n.before.before in
-    let e = c.before.before.before.made2.given in
-    let k = n.new.ensures.good _ e.1 in
+    let e = c.in-Good in
+    let k = n.new-made.ensures.good _ e.is in
     let g = ap (λ (s : Settings). s.cells) k.0 in
     let h : cells s.args.height s.args.members ≤ length s.args.table.now = omega arith in
-    judges-good _ _ _ _ _ refl k (is-long _ h ∙ passed n.new.ensures _ _ e.1)
+    judges-good _ _ _ _ _ refl k (is-long _ h ∙ passed n.new-made.ensures _ _ e.is)
 
-pub check-room-spec : {M : Type 1} → statement M
-check-room-spec =
+pub check_room_spec : {M : Type 1} → statement M
+check_room_spec =
     tie.close
     (tie.spec
     (λ c κs. search rules)

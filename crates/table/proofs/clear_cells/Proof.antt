@@ -8,14 +8,14 @@ use Rattle.lists.proofs.Spans.{span_none, span_set, span-end}
 use Rattle.table.proofs.clear_cells.Statement.{statement}
 use Rattle.table.proofs.clear_cells.Tie as tie
 
-abbrev invariant-loop : tie.invariant-loop
+abbrev invariant-loop : tie.invariant-loop-i
 invariant-loop table₀ cells i₀ table i = (i ≤ cells) × Span 0 0 i (λ k x. 0) table₀ table
 
-abbrev decreases-loop : tie.decreases-loop
+abbrev decreases-loop : tie.decreases-loop-i
 decreases-loop table₀ cells i₀ table i = cells - i
 
-pub clear-cells-spec : {M : Type 1} → statement M
-clear-cells-spec =
+pub clear_cells_spec : {M : Type 1} → statement M
+clear_cells_spec =
     tie.close
     (tie.spec
     invariant-loop
@@ -25,6 +25,6 @@ clear-cells-spec =
     (λ c. search rules)
     (λ c. search rules)
     (λ c. search rules)
-    (λ c. (omega arith, span_set c.before.loop.invariant.1 _ _ (omega arith) (omega arith) refl))
+    (λ c. (omega arith, span_set c.loop-i.invariant.1 _ _ (omega arith) (omega arith) refl))
     (λ c. omega arith)
-    (λ c. span-end _ c.before.loop.invariant.1 (omega arith) (omega arith)))
+    (λ c. span-end _ c.loop-i.invariant.1 (omega arith) (omega arith)))

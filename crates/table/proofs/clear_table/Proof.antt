@@ -33,37 +33,37 @@ module _ (N T : ℕ) (table : List ℕ) where
   unfolding clearing cleared
   whole now s e l w = let c = ap (λ (s : Settings). s.cells) e in span-is s.cells (cells N T) w (omega arith) (omega arith)
 
-module _ (c : tie.After-known-told2) where
+module _ (c : tie.In-Good) where
   abbrev s : tie.Start
-  s = c.before.before.before.before.before.before
+  s = c.before.before.before
 
-  abbrev j : tie.After-check-room
-  j = c.before.before.before
+  abbrev j : tie.After-check_room-made
+  j = c.before
 
   passed : none ≡ first (clearing s.args.height s.args.members s.args.table.now).checks
-  passed = judged-good (clearing s.args.height s.args.members s.args.table.now) j.check-room.ensures _ c.before.made2.given.1
+  passed = judged-good (clearing s.args.height s.args.members s.args.table.now) j.check_room-made.ensures _ c.in-Good.is
 
-  is : c.before.made2.given.0.0 ≡ settings_of s.args.height s.args.members
-  is = (j.check-room.ensures.good _ c.before.made2.given.1).0
+  is : c.in-Good.s ≡ settings_of s.args.height s.args.members
+  is = (j.check_room-made.ensures.good _ c.in-Good.is).0
 
-  fits : c.before.made2.given.0.0.cells ≤ length s.args.table.now
+  fits : c.in-Good.s.cells ≤ length s.args.table.now
   fits = let e = ap (λ (s : Settings). s.cells) is in omega (arith, room _ _ _ passed)
 
-returns : tie.Need-returns
+returns : tie.Need-returns-in-Bad
 unfolding clearing
 returns c =
-    let s = c.before.before.before.before.before.before in
-    judged-bad (clearing s.args.height s.args.members s.args.table.now) c.before.before.before.check-room.ensures _ c.before.made.given.1
+    let s = c.before.before.before in
+    judged-bad (clearing s.args.height s.args.members s.args.table.now) c.check_room-made.ensures _ c.in-Bad.is
 
-returns-2 : tie.Need-returns-2
+returns-2 : tie.Need-returns-in-Good
 unfolding clearing
 returns-2 c =
     let d = c.before.before.before.before.before in
     works (clearing (s d).args.height (s d).args.members (s d).args.table.now) _ _ (passed d) c.cleared.ensures
-    (whole _ _ _ _ _ (is d) (fits d) c.before.before.before.clear-cells.ensures)
+    (whole _ _ _ _ _ (is d) (fits d) c.clear_cells.ensures)
 
-pub clear-table-spec : {M : Type 1} → statement M
-clear-table-spec =
+pub clear_table_spec : {M : Type 1} → statement M
+clear_table_spec =
     tie.close
     (tie.spec
     (λ c κs. search rules)

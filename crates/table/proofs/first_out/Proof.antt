@@ -18,14 +18,14 @@ unfolding first_out
 returns c =
     let s = c.before.before.before.before in
     let k = s.requires.0 in
-    let are : Limits s.args.head c.before.before.Limits-of.result =
-    subst (λ (head : Head). Limits head c.before.before.Limits-of.result) (capped_same s.args.head s.requires.1.0) c.before.before.Limits-of.ensures in
+    let are : Limits s.args.head c.limits_of-limits.result =
+    subst (λ (head : Head). Limits head c.limits_of-limits.result) (capped_same s.args.head s.requires.1.0) c.limits_of-limits.ensures in
     c.first_above.ensures
     ∙ lowest-same _ _ _ (λ i l. sym (out_at k _ are s.args.table.now i))
     ∙ ap (lowest (out_of_bounds s.args.head s.args.table.now)) (cells-for k)
 
-pub first-out-spec : {M : Type 1} → statement M
-first-out-spec =
+pub first_out_spec : {M : Type 1} → statement M
+first_out_spec =
     tie.close
     (tie.spec
     (λ c κs. search rules)

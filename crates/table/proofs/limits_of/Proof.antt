@@ -15,10 +15,10 @@ use Rattle.table.specs.Limits.{Limits}
 use Rattle.table.proofs.limits_of.Statement.{statement}
 use Rattle.table.proofs.limits_of.Tie as tie
 
-abbrev invariant-loop : tie.invariant-loop
+abbrev invariant-loop : tie.invariant-loop-j
 invariant-loop within limits₀ j₀ limits j = (j ≤ 32) × (length limits ≡ 32) × ((k : ℕ) → k < j → get_or limits k 0 ≡ limit_of within (k + 1))
 
-abbrev decreases-loop : tie.decreases-loop
+abbrev decreases-loop : tie.decreases-loop-j
 decreases-loop within limits₀ j₀ limits j = 32 - j
 
 more : (head : Head) (v j : ℕ) (limits : List ℕ) → j < length limits → v ≡ limit_of head (j + 1) → ((k : ℕ) → k < j → get_or limits k 0 ≡ limit_of head (k + 1))
@@ -30,11 +30,11 @@ more head v j limits r e f k l = go (ℕ_discrete k j)
     go (no q) = get_or-set_other limits j k v 0 q ∙ f k (omega arith)
 
 -- the count is capped
-within : (c : tie.After-capped invariant-loop decreases-loop) → is_over c.capped.result ≡ false
-within c = rw c.capped.ensures (capped-not-over c.before.args.head)
+within : (c : tie.After-capped-within invariant-loop decreases-loop) → is_over c.capped-within.result ≡ false
+within c = rw c.capped-within.ensures (capped-not-over c.args.head)
 
-pub limits-of-spec : {M : Type 1} → statement M
-limits-of-spec =
+pub limits_of_spec : {M : Type 1} → statement M
+limits_of_spec =
     tie.close
     (tie.spec
     invariant-loop
@@ -48,6 +48,6 @@ limits-of-spec =
     (λ c. search rules)
     (λ c. search rules)
     (λ c.
-    let l = c.before.before.loop in
-    (omega arith, simp length-set l.invariant.1, more c.before.before.before.capped.result _ l.j l.limits (omega arith) c.limit-of.ensures l.invariant.2))
-    (λ c. subst (λ (head : Head). Limits head c.before.loop.limits) c.before.before.capped.ensures (record { are = λ j l. c.before.loop.invariant.2 j (omega arith) })))
+    let l = c.loop-j in
+    (omega arith, simp length-set l.invariant.1, more c.capped-within.result _ l.j l.limits (omega arith) c.limit_of.ensures l.invariant.2))
+    (λ c. subst (λ (head : Head). Limits head c.loop-j.limits) c.capped-within.ensures (record { are = λ j l. c.loop-j.invariant.2 j (omega arith) })))

@@ -6,13 +6,13 @@ use Rattle.table.proofs.Cells.{row_in}
 use Rattle.table.proofs.partner_of.Statement.{statement}
 use Rattle.table.proofs.partner_of.Tie as tie
 
-returns : tie.Need-returns
+returns : tie.Need-returns-then-row-s
 returns c =
     let s = c.before.before.before.before in
     (omega (arith, row_in s.requires.0 (s.args.row + 1) (omega arith)), λ u. omega arith)
 
-pub partner-of-spec : {M : Type 1} → statement M
-partner-of-spec =
+pub partner_of_spec : {M : Type 1} → statement M
+partner_of_spec =
     tie.close
     (tie.spec
     (λ c. let s = c.before in let k = s.requires.0 in omega (arith, row_in k s.args.row (omega arith), k.few-cells))

@@ -3,5 +3,5 @@ use native.Mathlib.Omega.{arith}
 use Rattle.table.proofs.row_end.Statement.{statement}
 use Rattle.table.proofs.row_end.Tie as tie
 
-pub row-end-spec : {M : Type 1} → statement M
-row-end-spec = tie.close (tie.spec (λ c. omega arith) (λ c. omega arith))
+pub row_end_spec : {M : Type 1} → statement M
+row_end_spec = tie.close (tie.spec (λ c. omega arith) (λ c. omega arith))

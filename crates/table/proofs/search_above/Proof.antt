@@ -11,14 +11,14 @@ use Rattle.table.proofs.Limits.{above-yes, above-no}
 use Rattle.table.proofs.search_above.Statement.{statement}
 use Rattle.table.proofs.search_above.Tie as tie
 
-abbrev invariant-loop : tie.invariant-loop
+abbrev invariant-loop : tie.invariant-loop-j
 invariant-loop table limits base width j₀ j = (j ≤ width) × ((k : ℕ) → k < j → above limits table base k ≡ false)
 
-abbrev decreases-loop : tie.decreases-loop
+abbrev decreases-loop : tie.decreases-loop-j
 decreases-loop table limits base width j₀ j = width - j
 
-pub search-above-spec : {M : Type 1} → statement M
-search-above-spec =
+pub search_above_spec : {M : Type 1} → statement M
+search_above_spec =
     tie.close
     (tie.spec
     invariant-loop
@@ -29,8 +29,8 @@ search-above-spec =
     (λ c. search rules)
     (λ c. search rules)
     (λ c. search rules)
-    (λ c. found _ _ _ (omega arith) c.before.before.before.before.loop.invariant.1 (above-yes _ _ _ _ c.if1.true))
+    (λ c. found _ _ _ (omega arith) c.loop-j.invariant.1 (above-yes _ _ _ _ c.if-limits-j.true))
     (λ c. search rules)
     (λ c. search rules)
-    (λ c. (omega arith, below_more _ _ c.before.before.before.before.loop.invariant.1 (above-no _ _ _ _ c.if1.false)))
-    (λ c. missed _ _ _ (omega arith) (omega arith) c.before.loop.invariant.1))
+    (λ c. (omega arith, below_more _ _ c.loop-j.invariant.1 (above-no _ _ _ _ c.if-limits-j.false)))
+    (λ c. missed _ _ _ (omega arith) (omega arith) c.loop-j.invariant.1))

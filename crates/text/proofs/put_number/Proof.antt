@@ -11,10 +11,10 @@ use Rattle.text.proofs.put_number.Tie as tie
 
 returns : tie.Need-returns
 returns c =
-    let a = c.before.before.before.before.before.before.before.before.args in
-    let d = c.before.before.before.before.before.decimal.ensures in
-    c.before.before.put-text.ensures
-    ∙ ap (λ (t : List ℕ). put t (sink a.at a.out.now)) (d.1.1 ∙ decimal-is _ _ (omega arith) d.1.0)
+    let a = c.args in
+    let d = c.decimal-count.ensures in
+    c.put_text.ensures
+    ∙ ap (λ (t : List ℕ). put t (sink a.at a.out.now)) (d.1.1.0 ∙ decimal-is _ _ (omega arith) d.1.0)
 
-pub put-number-spec : {M : Type 1} → statement M
-put-number-spec = tie.close (tie.spec (λ c κs. search rules) (λ c. search rules) (λ c. search rules) (λ c κs. search rules) (λ c. search rules) returns)
+pub put_number_spec : {M : Type 1} → statement M
+put_number_spec = tie.close (tie.spec (λ c κs. search rules) (λ c. search rules) (λ c. search rules) (λ c κs. search rules) (λ c. search rules) returns)

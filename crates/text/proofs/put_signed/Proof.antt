@@ -10,33 +10,33 @@ use Rattle.text.proofs.Signed.{wide_fits, rest-fits, below-fits, below-text, abo
 use Rattle.text.proofs.put_signed.Statement.{statement}
 use Rattle.text.proofs.put_signed.Tie as tie
 
-returns : tie.Need-returns
+returns : tie.Need-returns-then-wide-lt0
 returns c =
     let d = c.before.before.before.before.before.before.before.before.before.before in
     let k = sink d.args.at d.args.out.now in
-    c.before.before.put-number.ensures
-    ∙ ap (put (decimal _)) c.before.before.before.before.before.before.put_byte.ensures
+    c.put_number.ensures
+    ∙ ap (put (decimal _)) c.put_byte-next.ensures
     ∙ sym (put-append (45 ∷ []) (decimal _) k)
-    ∙ ap (λ (t : List ℕ). put t k) (below-text d.args.z d.ranges.z c.before.before.before.before.before.before.before.before.if1.true)
+    ∙ ap (λ (t : List ℕ). put t k) (below-text d.args.z d.ranges.z c.if-wide-lt0.true)
 
-returns-2 : tie.Need-returns-2
+returns-2 : tie.Need-returns
 returns-2 c =
     let d = c.before.before.before.before.before.before in
-    c.before.before.put-number2.ensures
-    ∙ ap (λ (t : List ℕ). put t (sink d.args.at d.args.out.now)) (above-text d.args.z d.ranges.z c.before.before.before.before.if1.false)
+    c.put_number-2.ensures
+    ∙ ap (λ (t : List ℕ). put t (sink d.args.at d.args.out.now)) (above-text d.args.z d.ranges.z c.if-wide-lt0.false)
 
-pub put-signed-spec : {M : Type 1} → statement M
-put-signed-spec =
+pub put_signed_spec : {M : Type 1} → statement M
+put_signed_spec =
     tie.close
     (tie.spec
-    (λ c. wide_fits c.before.args.z c.before.ranges.z)
+    (λ c. wide_fits c.args.z c.ranges.z)
     (λ c κs. search rules)
-    (λ c. rest-fits c.before.before.before.before.before.before.before.args.z c.before.before.before.before.before.before.before.ranges.z)
-    (λ c. below-fits c.before.before.before.before.before.before.before.args.z c.before.before.before.before.before.before.before.ranges.z c.before.before.before.before.before.if1.true)
+    (λ c. rest-fits c.args.z c.ranges.z)
+    (λ c. below-fits c.args.z c.ranges.z c.if-wide-lt0.true)
     (λ c κs. search rules)
     (λ c. search rules)
     returns
-    (λ c. above-fits c.before.before.before.args.z c.before.before.before.ranges.z c.before.if1.false)
+    (λ c. above-fits c.args.z c.ranges.z c.if-wide-lt0.false)
     (λ c κs. search rules)
     (λ c. search rules)
     returns-2)

@@ -10,25 +10,25 @@ use Rattle.text.proofs.Laws.{put_rest, put-end}
 use Rattle.text.proofs.put_text.Statement.{statement}
 use Rattle.text.proofs.put_text.Tie as tie
 
-abbrev invariant-loop : tie.invariant-loop
+abbrev invariant-loop : tie.invariant-loop-i
 invariant-loop out₀ at text next₀ i₀ out next i =
     (length out ≡ length out₀) × (i ≤ length text) × (put (drop i text) (sink next out) ≡ put text (sink at out₀))
 
-abbrev decreases-loop : tie.decreases-loop
+abbrev decreases-loop : tie.decreases-loop-i
 decreases-loop out₀ at text next₀ i₀ out next i = length text - i
 
-loop-again : tie.Need-loop-preserved invariant-loop decreases-loop
+loop-again : tie.Need-loop-i-preserved invariant-loop decreases-loop
 loop-again c =
-    let l = c.before.before.before.before.before.before.loop in (
+    let l = c.loop-i in (
       search rules,
       omega arith,
-      ap (put (drop (l.i + 1) _)) c.before.before.put_byte.ensures
-          ∙ sym (put_rest _ l.i (sink l.next l.out) c.before.before.before.before.before.loop-test.true)
+      ap (put (drop (l.i + 1) _)) c.put_byte-next.ensures
+          ∙ sym (put_rest _ l.i (sink l.next l.out) c.loop-i-test.true)
           ∙ l.invariant.2,
     )
 
-pub put-text-spec : {M : Type 1} → statement M
-put-text-spec =
+pub put_text_spec : {M : Type 1} → statement M
+put_text_spec =
     tie.close
     (tie.spec
     invariant-loop
@@ -40,4 +40,4 @@ put-text-spec =
     (λ c. search rules)
     loop-again
     (λ c. search rules)
-    (λ c. put-end _ c.before.loop.i _ c.loop-test.false ∙ c.before.loop.invariant.2))
+    (λ c. put-end _ c.loop-i.i _ c.loop-i-test.false ∙ c.loop-i.invariant.2))

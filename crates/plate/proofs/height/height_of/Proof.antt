@@ -5,8 +5,8 @@ use Rattle.plate.proofs.Signed.{minus32-fits, minus32}
 use Rattle.plate.proofs.height.height_of.Statement.{statement}
 use Rattle.plate.proofs.height.height_of.Tie as tie
 
-pub height-of-spec : {M : Type 1} → statement M
-height-of-spec =
+pub height_of_spec : {M : Type 1} → statement M
+height_of_spec =
     tie.close
     (tie.spec
     (λ c. search rules)

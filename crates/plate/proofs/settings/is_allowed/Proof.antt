@@ -6,8 +6,8 @@ use Rattle.paper.proofs.Thicknesses.{allowed-under, allowed-above, allowed-bit}
 use Rattle.plate.proofs.settings.is_allowed.Statement.{statement}
 use Rattle.plate.proofs.settings.is_allowed.Tie as tie
 
-pub is-allowed-spec : {M : Type 1} → statement M
-is-allowed-spec =
+pub is_allowed_spec : {M : Type 1} → statement M
+is_allowed_spec =
     tie.close
     (tie.spec
     (λ c. sym (allowed-under _ _ (omega arith)))

@@ -8,40 +8,40 @@ use Rattle.paper.proofs.Thicknesses.{least-hit, least-miss}
 use Rattle.plate.proofs.settings.least_of.Statement.{statement}
 use Rattle.plate.proofs.settings.least_of.Tie as tie
 
-abbrev invariant-loop : tie.invariant-loop
+abbrev invariant-loop : tie.invariant-loop-k
 invariant-loop T k₀ k = (k ≤ 32) × (tmin T ≡ least_above T k (32 - k))
 
-abbrev decreases-loop : tie.decreases-loop
+abbrev decreases-loop : tie.decreases-loop-k
 decreases-loop T k₀ k = 32 - k
 
-loop-holds : tie.Need-loop-init invariant-loop decreases-loop
+loop-holds : tie.Need-loop-k-init invariant-loop decreases-loop
 unfolding tmin
 loop-holds c = (omega arith, refl)
 
-returns : tie.Need-returns invariant-loop decreases-loop
+returns : tie.Need-returns-then-is_allowed invariant-loop decreases-loop
 returns c =
     let l = c.before.before.before in
-    sym (l.loop.invariant.1 ∙ least-hit _ l.loop.k (32 - l.loop.k) (omega arith) (sym c.before.is-allowed.ensures ∙ c.if1.true))
+    sym (l.loop-k.invariant.1 ∙ least-hit _ l.loop-k.k (32 - l.loop-k.k) (omega arith) (sym c.before.is_allowed.ensures ∙ c.if-is_allowed.true))
 
-loop-again : tie.Need-loop-preserved invariant-loop decreases-loop
+loop-again : tie.Need-loop-k-preserved invariant-loop decreases-loop
 loop-again c =
     let l = c.before.before.before in
-    let e : 32 - l.loop.k - 1 ≡ 32 - (l.loop.k + 1) = omega arith in (
+    let e : 32 - l.loop-k.k - 1 ≡ 32 - (l.loop-k.k + 1) = omega arith in (
       omega arith,
-      l.loop.invariant.1
-          ∙ least-miss _ l.loop.k (32 - l.loop.k) (omega arith) (sym c.before.is-allowed.ensures ∙ c.if1.false)
-          ∙ ap (least_above l.before.args.members (l.loop.k + 1)) e,
+      l.loop-k.invariant.1
+          ∙ least-miss _ l.loop-k.k (32 - l.loop-k.k) (omega arith) (sym c.before.is_allowed.ensures ∙ c.if-is_allowed.false)
+          ∙ ap (least_above l.before.args.members (l.loop-k.k + 1)) e,
     )
 
-returns-2 : tie.Need-returns-2 invariant-loop decreases-loop
+returns-2 : tie.Need-returns invariant-loop decreases-loop
 unfolding least_above
 returns-2 c =
     let l = c.before in
-    let e : 32 - l.loop.k ≡ 0 = omega arith in
-    sym (l.loop.invariant.1 ∙ ap (least_above l.before.args.members l.loop.k) e)
+    let e : 32 - l.loop-k.k ≡ 0 = omega arith in
+    sym (l.loop-k.invariant.1 ∙ ap (least_above l.before.args.members l.loop-k.k) e)
 
-pub least-of-spec : {M : Type 1} → statement M
-least-of-spec =
+pub least_of_spec : {M : Type 1} → statement M
+least_of_spec =
     tie.close
     (tie.spec
     invariant-loop

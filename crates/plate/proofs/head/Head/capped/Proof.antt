@@ -12,10 +12,10 @@ use Rattle.plate.proofs.head.Head.capped.Tie as tie
 counted : (head : Head) (n : ℕ) → n ≡ min head.columns most_columns → with_columns head n ≡ capped head
 counted head n e = ap (with_columns head) e
 
-pub capped-spec : {M : Type 1} → statement M
-capped-spec =
+pub capped_spec : {M : Type 1} → statement M
+capped_spec =
     tie.close
     (tie.spec
     (λ c κs. search rules)
-    (λ c. c.with-columns.ensures ∙ counted _ _ (omega arith))
+    (λ c. c.with_columns.ensures ∙ counted _ _ (omega arith))
     (λ c. counted c.before.before.args.self _ (omega arith)))

@@ -8,5 +8,5 @@ returns : tie.Need-returns
 unfolding is_full
 returns c = refl
 
-pub is-full-spec : {M : Type 1} → statement M
-is-full-spec = tie.close (tie.spec returns)
+pub is_full_spec : {M : Type 1} → statement M
+is_full_spec = tie.close (tie.spec returns)

@@ -8,5 +8,5 @@ returns : tie.Need-returns
 unfolding is_less
 returns c = refl
 
-pub is-less-spec : {M : Type 1} → statement M
-is-less-spec = tie.close (tie.spec returns)
+pub is_less_spec : {M : Type 1} → statement M
+is_less_spec = tie.close (tie.spec returns)

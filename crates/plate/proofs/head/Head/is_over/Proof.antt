@@ -8,5 +8,5 @@ returns : tie.Need-returns
 unfolding is_over
 returns c = refl
 
-pub is-over-spec : {M : Type 1} → statement M
-is-over-spec = tie.close (tie.spec returns)
+pub is_over_spec : {M : Type 1} → statement M
+is_over_spec = tie.close (tie.spec returns)

@@ -9,5 +9,5 @@ returns : tie.Need-returns
 unfolding is_over
 returns c = refl
 
-pub is-over-with-spec : {M : Type 1} → statement M
-is-over-with-spec = tie.close (tie.spec (λ c. search rules) (λ c. search rules) (λ c. search rules) (λ c. search rules) returns)
+pub is_over_with_spec : {M : Type 1} → statement M
+is_over_with_spec = tie.close (tie.spec (λ c. search rules) (λ c. search rules) (λ c. search rules) (λ c. search rules) returns)

@@ -6,12 +6,12 @@ use Rattle.plate.proofs.Heads.{not-over-both}
 use Rattle.plate.proofs.head.Head.joined_with.Statement.{statement}
 use Rattle.plate.proofs.head.Head.joined_with.Tie as tie
 
-pub joined-with-spec : {M : Type 1} → statement M
-joined-with-spec =
+pub joined_with_spec : {M : Type 1} → statement M
+joined_with_spec =
     tie.close
     (tie.spec
     (λ c κs. search rules)
-    (λ c. rw (sym c.before.is-over-with.ensures ∙ c.if1.true) refl)
-    (λ c. let a = c.before.before.before.before.args in omega (arith, not-over-both a.self a.other (sym c.before.before.before.is-over-with.ensures ∙ c.before.before.if1.false)))
+    (λ c. rw (sym c.before.is_over_with.ensures ∙ c.if-is_over_with.true) refl)
+    (λ c. let a = c.before.before.before.before.args in omega (arith, not-over-both a.self a.other (sym c.before.before.before.is_over_with.ensures ∙ c.before.before.if-is_over_with.false)))
     (λ c κs. search rules)
-    (λ c. let i = c.before.before.before in rw (sym i.before.is-over-with.ensures ∙ i.if1.false) c.with-columns.ensures))
+    (λ c. let i = c.before.before.before in rw (sym i.before.is_over_with.ensures ∙ i.if-is_over_with.false) c.with_columns.ensures))

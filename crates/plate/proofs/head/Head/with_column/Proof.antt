@@ -6,12 +6,12 @@ use Rattle.plate.proofs.Heads.{not_full}
 use Rattle.plate.proofs.head.Head.with_column.Statement.{statement}
 use Rattle.plate.proofs.head.Head.with_column.Tie as tie
 
-pub with-column-spec : {M : Type 1} → statement M
-with-column-spec =
+pub with_column_spec : {M : Type 1} → statement M
+with_column_spec =
     tie.close
     (tie.spec
     (λ c κs. search rules)
-    (λ c. rw (sym c.before.is-full.ensures ∙ c.if1.true) refl)
-    (λ c. omega (arith, not_full _ (sym c.before.before.is-full.ensures ∙ c.before.if1.false)))
+    (λ c. rw (sym c.before.is_full.ensures ∙ c.if-is_full.true) refl)
+    (λ c. omega (arith, not_full _ (sym c.before.before.is_full.ensures ∙ c.before.if-is_full.false)))
     (λ c κs. search rules)
-    (λ c. let i = c.before.before in rw (sym i.before.is-full.ensures ∙ i.if1.false) c.with-columns.ensures))
+    (λ c. let i = c.before.before in rw (sym i.before.is_full.ensures ∙ i.if-is_full.false) c.with_columns.ensures))

@@ -7,14 +7,14 @@ use Rattle.plate.specs.Head.{with_columns}
 use Rattle.plate.proofs.head.Head.without.Statement.{statement}
 use Rattle.plate.proofs.head.Head.without.Tie as tie
 
-none_left : tie.Need-returns
+none_left : tie.Need-returns-then-self-other
 none_left c =
     let a = c.before.before.before.before.args in
     let e : ◌≡◌ {A = ℕ} 0 (a.self.columns - a.other.columns) = omega arith in
-    c.with-columns.ensures ∙ ap (with_columns a.self) e
+    c.with_columns.ensures ∙ ap (with_columns a.self) e
 
-pub without-spec : {M : Type 1} → statement M
-without-spec =
+pub without_spec : {M : Type 1} → statement M
+without_spec =
     tie.close
     (tie.spec
     (λ c κs. search rules)
