@@ -5,11 +5,11 @@ use mathlib.Core.Path.{◌≡◌, refl, sym, ap, subst, ◌∙◌}
 use mathlib.Core.Bool.{true, false}
 use mathlib.Core.List.{List, [], ◌∷◌, ◌++◌, append-nil}
 use mathlib.Core.Option.{none}
-use Prim.Native.Nat.{ℕ, zero, suc, ◌+◌, ◌≤◌}
+use Prim.Native.Nat.{ℕ, zero, suc, ◌+◌, ◌≤◌, ◌<◌}
 use native.Mathlib.Omega.{arith}
 use lib.ListN.{length}
 use Rattle.lists.specs.Checks.{first}
-use Rattle.paper.specs.Limits.{most_columns}
+use Rattle.paper.specs.Limits.{sets, largest_bound, most_columns}
 use Rattle.paper.specs.Layer.{Column, column_of}
 use Rattle.plate.specs.Refusal.{Told, done, refused}
 use Rattle.plate.specs.Settings.{settings_checks}
@@ -123,8 +123,8 @@ module _ (asking : Asking) (s : List ℕ) where
             fine = a.fine;
             place = a.place;
             unasked = a.unasked;
-            bits = rw a.read-there (quad-small s byte (body_at a.place + 2));
-            low-bound = rw a.read-there (omega (arith, quad-small s byte (body_at a.place + 6)));
+            bits = subst (λ (x : Asked). x.members < sets) (sym a.read-there) (quad-small s byte (body_at a.place + 2));
+            low-bound = subst (λ (x : Asked). x.bound ≤ largest_bound) (sym a.read-there) (omega (arith, quad-small s byte (body_at a.place + 6)));
             order = u.order;
             few = omega (arith, u.few, counts u);
           }))

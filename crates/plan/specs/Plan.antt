@@ -1,7 +1,7 @@
 -- Document 01, 'Plan': its refusals 1, 2, 3 (table, error sheet, thickness sheet, list), 7, 6, what it returns, and what the two sheets
 -- and the list hold then. Assumes nothing.
 use Rattle.std.specs.Prelude.{ℕ, ◌≤◌, List, ◌∷◌, ◌++◌, ltb, length}
-use Rattle.std.specs.Borrow.{Bor}
+use Rattle.std.specs.Borrow.{MutBor}
 use Rattle.lists.specs.Checks.{Check}
 use Rattle.paper.specs.Sequence.{M}
 use Rattle.paper.specs.Sheets.{entries}
@@ -22,7 +22,7 @@ abbrev pub sheets_of : List ℕ → List ℕ → List ℕ → Sheets
 sheets_of errors thicknesses leasts = record { errors = errors; thicknesses = thicknesses; leasts = leasts }
 
 -- what three buffers hold, as sheets and list
-abbrev pub sheets_in : Bor (List ℕ) → Bor (List ℕ) → Bor (List ℕ) → Sheets
+abbrev pub sheets_in : MutBor (List ℕ) → MutBor (List ℕ) → MutBor (List ℕ) → Sheets
 sheets_in errors thicknesses leasts = sheets_of errors.now thicknesses.now leasts.now
 
 -- past the settings: 3, by the lengths of the buffers, 7, 6

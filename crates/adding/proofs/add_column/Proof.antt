@@ -22,6 +22,7 @@ use Rattle.adding.proofs.add_column.Statement.{statement}
 use Rattle.adding.proofs.add_column.Tie as tie
 
 -- 6 is the last check: where those before it pass, what is done with the rest is the call
+
 then : (held : Held) (column : Column) → first (overfull_cell held column ∷ []) ≡ first (adding held column).checks
     → {told : Told Head} {now : List ℕ} → Does (adding_ordered held column) told now → Does (adding held column) told now
 unfolding adding adding_ordered
@@ -31,9 +32,9 @@ then held column e d = record {
 }
 
 -- where `check_adding` passes
-module _ (c : tie.After-known-told2) where
+module _ (c : tie.In-Good) where
   abbrev s : tie.Start
-  s = c.before.before.before.before.before.before.before
+  s = c.before.before.before.before
 
   abbrev held : Held
   held = held_in s.args.head s.args.table.now
@@ -42,30 +43,30 @@ module _ (c : tie.After-known-told2) where
   column = column_of s.args.column.now
 
   abbrev made : Settings
-  made = c.before.made2.given.0.0
+  made = c.in-Good.s
 
   ordered : none ≡ first (order_checks held column)
-  ordered = ap said_made (sym c.before.made2.given.1) ∙ c.before.before.before.check-adding.ensures.says
+  ordered = ap said_made (sym c.in-Good.is) ∙ c.check_adding-made.ensures.says
 
   for : SettingsFor s.args.head made
-  for = let g = c.before.before.before.check-adding.ensures.good _ c.before.made2.given.1 in record { is = g.0; sound = g.1 }
+  for = let g = c.check_adding-made.ensures.good _ c.in-Good.is in record { is = g.0; sound = g.1 }
 
-returns : tie.Need-returns
+returns : tie.Need-returns-in-Bad
 unfolding adding add_rest order_checks order_rest settings_checks
 returns c =
-    let s = c.before.before.before.before.before.before.before in
+    let s = c in
     let held = held_in s.args.head s.args.table.now in
     let column = column_of s.args.column.now in
-    refuses (adding held column) c.before.made.given.0.0 (stopped c.before.before.before.check-adding.ensures (overfull_cell held column ∷ []) _ c.before.made.given.1)
+    refuses (adding held column) c.in-Bad.refusal (stopped c.check_adding-made.ensures (overfull_cell held column ∷ []) _ c.in-Bad.is)
 
-returns-2 : tie.Need-returns-2
+returns-2 : tie.Need-returns-in-Good
 unfolding adding add_rest order_checks order_rest settings_checks
 returns-2 c =
     let d = c.before.before.before.before in
-    then (held d) (column d) (passed d.before.before.before.check-adding.ensures (overfull_cell (held d) (column d) ∷ []) _ d.before.made2.given.1) c.before.before.add-ordered.ensures
+    then (held d) (column d) (passed d.check_adding-made.ensures (overfull_cell (held d) (column d) ∷ []) _ d.in-Good.is) c.add_ordered.ensures
 
-pub add-column-spec : {M : Type 1} → statement M
-add-column-spec =
+pub add_column_spec : {M : Type 1} → statement M
+add_column_spec =
     tie.close
     (tie.spec
     (λ c κs. search rules)

@@ -97,63 +97,63 @@ module _ (s : tie.Start) where
   column = column_of s.args.column.now
 
   few : is_full s.args.head ≡ false
-  few = s.pre.1.0.0
+  few = s.requires.1.0.0
 
   kept : {old caps : List ℕ} → Span 0 0 (min (min s.args.s.tmax most_thickness) 32) (λ j x. cap_of (capped s.args.head) (j + 1)) old caps → Caps s.args.head s.args.s.tmax caps
-  kept w = caps-for s.pre.0 (full-over _ few) _ (omega (arith, s.pre.0.sound.thick)) w
+  kept w = caps-for s.requires.0 (full-over _ few) _ (omega (arith, s.requires.0.sound.thick)) w
 
   finish : (now : List ℕ) (head : Head) → none ≡ first (overfull_cell held column ∷ []) → head ≡ cond (is_full s.args.head) s.args.head (more s.args.head)
       → Span 0 0 s.args.s.cells (λ i x. x + addend s.args.s.members column i) s.args.table.now now → Does (adding_ordered held column) (done head) now
   unfolding adding_ordered
-  finish now head e h w = works (adding_ordered held column) head now e (h ∙ rw few) (whole held column s.args.s s.pre.0 s.pre.1.0.1 now w)
+  finish now head e h w = works (adding_ordered held column) head now e (h ∙ rw few) (whole held column s.args.s s.requires.0 s.requires.1.0.1 now w)
 
 -- a column without boundaries
-returns : tie.Need-returns
+returns : tie.Need-returns-then-column-eq0
 returns c =
     let s = c.before.before.before.before in
     let k = s.requires.0 in
-    let nothing = none-added k.sound s.requires.1.1 c.before.if1.true in
-    finish s s.args.table.now _ (fine (held s) (column s) _ (none_over k s.args.table.now (column s) nothing) (omega arith)) c.with-column.ensures
+    let nothing = none-added k.sound s.requires.1.1 c.if-column-eq0.true in
+    finish s s.args.table.now _ (fine (held s) (column s) _ (none_over k s.args.table.now (column s) nothing) (omega arith)) c.with_column.ensures
     (span_rest _ (span_none 0 _ _) (omega arith) (λ i u v. omega (arith, nothing i v)))
 
 -- where the search over the caps ends
-module _ (c : tie.After-first-heaped) where
+module _ (c : tie.After-first_heaped-over) where
   abbrev at : tie.Start
-  at = c.before.before.before.before.before.before.before.before.before
+  at = c.before.before.before.before.before.before.before.before
 
-  found : c.first-heaped.result ≡ first_overfull (held at) (column at)
-  found = c.first-heaped.ensures ∙ over-is at.pre.0 at.args.table.now (column at) _ (kept at c.before.before.before.before.fill-caps.ensures)
+  found : c.first_heaped-over.result ≡ first_overfull (held at) (column at)
+  found = c.first_heaped-over.ensures ∙ over-is at.requires.0 at.args.table.now (column at) _ (kept at c.fill_caps.ensures)
 
-returns-2 : tie.Need-returns-2
+returns-2 : tie.Need-returns-then-over-s
 unfolding adding_ordered
 returns-2 c =
     let f = c.before.before.before in
     let s = at f in
-    refuses (adding_ordered (held s) (column s)) c.refusal-at.result (ap (λ (r : Refusal). some (numbered r)) c.refusal-at.ensures ∙ over (held s) (column s) _ (found f) (omega (arith, c.before.if2.true, cells-for s.pre.0)))
+    refuses (adding_ordered (held s) (column s)) c.refusal_at.result (ap (λ (r : Refusal). some (numbered r)) c.refusal_at.ensures ∙ over (held s) (column s) _ (found f) (omega (arith, c.if-over-s.true, cells-for s.requires.0)))
 
 -- no cell is out of bounds
-module _ (c : tie.Else2) where
-  abbrev from : tie.After-first-heaped
+module _ (c : tie.Else-over-s) where
+  abbrev from : tie.After-first_heaped-over
   from = c.before.before
 
   passed : cells_of (at from).args.head ≤ first_overfull (held (at from)) (column (at from))
-  passed = omega (arith, found from, c.if2.false, cells-for (at from).pre.0)
+  passed = omega (arith, found from, c.if-over-s.false, cells-for (at from).requires.0)
 
   addable : Addable (held (at from)) (column (at from)) (at from).args.s
-  addable = add-passed (held (at from)) (column (at from)) (at from).pre.0 (at from).pre.1.0.1 (few (at from)) passed
+  addable = add-passed (held (at from)) (column (at from)) (at from).requires.0 (at from).requires.1.0.1 (few (at from)) passed
 
   fits : (i : ℕ) → i < (at from).args.s.cells → get_or (at from).args.table.now i 0 + addend (at from).args.s.members (column (at from)) i < 4294967296
   fits i l =
-      omega (arith, addable.fits i l (omega (arith, (from.before.before.before.before.before.before.before.before.slice-known.given i).fits)), ap (λ (T : ℕ). addend T (column (at from)) i) (members-for (at from).pre.0))
+      omega (arith, addable.fits i l (omega (arith, (from.slice_known-1.given i).fits)), ap (λ (T : ℕ). addend T (column (at from)) i) (members-for (at from).requires.0))
 
-returns-3 : tie.Need-returns-3
+returns-3 : tie.Need-returns
 returns-3 c =
     let d = c.before.before.before.before.before.before in
     let s = at (from d) in
-    finish s _ _ (fine (held s) (column s) _ refl (passed d)) c.with-column2.ensures c.before.before.before.add-rows.ensures
+    finish s _ _ (fine (held s) (column s) _ refl (passed d)) c.with_column-2.ensures c.add_rows.ensures
 
-pub add-ordered-spec : {M : Type 1} → statement M
-add-ordered-spec =
+pub add_ordered_spec : {M : Type 1} → statement M
+add_ordered_spec =
     tie.close
     (tie.spec
     (λ c κs. search rules)
@@ -161,15 +161,15 @@ add-ordered-spec =
     (λ c. refl)
     (λ c κs. search rules)
     (λ c κs.
-    let s = c.before.before.before.before.before.before.before.before in
-    (s.requires.0.sound, (s.requires.1.0.1, (s.requires.1.1, allowing-for s.requires.0 (full-over _ (few s)) (kept s c.before.before.before.fill-caps.ensures)))))
+    let s = c.before.before.before.before.before.before.before in
+    (s.requires.0.sound, (s.requires.1.0.1, (s.requires.1.1, allowing-for s.requires.0 (full-over _ (few s)) (kept s c.fill_caps.ensures)))))
     (λ c κs. search rules)
     (λ c. search rules)
     returns-2
     (λ c κs.
     let d = c.before.before in
     let s = at (from d) in
-    (s.pre.0.sound, (s.pre.1.0.1, ((s.pre.1.1, allowing-for s.pre.0 (full-over _ (few s)) (kept s c.before.before.before.before.before.before.before.before.fill-caps.ensures)), fits d))))
+    (s.requires.0.sound, (s.requires.1.0.1, ((s.requires.1.1, allowing-for s.requires.0 (full-over _ (few s)) (kept s c.fill_caps.ensures)), fits d))))
     (λ c κs. search rules)
-    (λ c. c.before.before.before.add-rows.ensures.long)
+    (λ c. c.add_rows.ensures.long)
     returns-3)

@@ -23,7 +23,7 @@ use Rattle.adding.proofs.Near.{adds-before, adds-counted, adds-barred}
 use Rattle.adding.proofs.add_row.Statement.{statement}
 use Rattle.adding.proofs.add_row.Tie as tie
 
-abbrev invariant-loop : tie.invariant-loop
+abbrev invariant-loop : tie.invariant-loop-j
 invariant-loop table₀ column states caps s row k first end inside₀ j₀ table count j =
     (first ≤ j)
     × (j ≤ s.tmax)
@@ -31,131 +31,131 @@ invariant-loop table₀ column states caps s row k first end inside₀ j₀ tabl
     × (count ≡ inside column (at_row s.tmax row) j)
     × Span 0 (row * s.tmax) j (λ i x. x + addend s.members (column_of column) (row * s.tmax + i)) table₀ table
 
-abbrev decreases-loop : tie.decreases-loop
+abbrev decreases-loop : tie.decreases-loop-j
 decreases-loop table₀ column states caps s row k first end inside₀ j₀ table count j = s.tmax - j
 
-abbrev S : tie.At-loop invariant-loop decreases-loop → tie.Start invariant-loop decreases-loop
+abbrev S : tie.At-loop-j invariant-loop decreases-loop → tie.Start invariant-loop decreases-loop
 S l = l.before.before.before.before.before
 
 -- a turn
-module _ (d : tie.In-loop invariant-loop decreases-loop) where
-  abbrev l : tie.At-loop invariant-loop decreases-loop
+module _ (d : tie.In-loop-j invariant-loop decreases-loop) where
+  abbrev l : tie.At-loop-j invariant-loop decreases-loop
   l = d.before
 
   abbrev at : tie.Start invariant-loop decreases-loop
   at = S l
 
   -- it is made below the row's width
-  turn : l.loop.j < at.args.s.tmax
-  turn = omega (arith, d.loop-test.taken, l.loop.inv.2)
+  turn : l.loop-j.j < at.args.s.tmax
+  turn = omega (arith, d.loop-j-test.true, l.loop-j.invariant.2)
 
   -- its cell lies in the table
-  place : at.args.row * at.args.s.tmax + l.loop.j < at.args.s.cells
-  place = cell_in at.pre.0 at.args.row at.pre.1.0.0 l.loop.j turn
+  place : at.args.row * at.args.s.tmax + l.loop-j.j < at.args.s.cells
+  place = cell_in at.requires.0 at.args.row at.requires.1.0.0 l.loop-j.j turn
 
   abbrev count : ℕ
-  count = l.loop.inside + get_or at.args.states.now (l.loop.j - at.args.first) 0
+  count = l.loop-j.inside + get_or at.args.states.now (l.loop-j.j - at.args.first) 0
 
   -- one voxel more is looked at
-  counted : count ≡ inside at.args.column.now (at_row at.args.s.tmax at.args.row) (l.loop.j + 1)
+  counted : count ≡ inside at.args.column.now (at_row at.args.s.tmax at.args.row) (l.loop-j.j + 1)
   counted =
-      ap (λ (x : ℕ). x + get_or at.args.states.now (l.loop.j - at.args.first) 0) l.loop.inv.3
-      ∙ sym (inside-carried at.args.column.now at.pre.1.1.0.0.rising at.pre.0.thick at.pre.1.1.0.1 at.pre.1.1.1.0.0 l.loop.j l.loop.inv.0 turn)
+      ap (λ (x : ℕ). x + get_or at.args.states.now (l.loop-j.j - at.args.first) 0) l.loop-j.invariant.3
+      ∙ sym (inside-carried at.args.column.now at.requires.1.1.0.0.rising at.requires.0.thick at.requires.1.1.0.1 at.requires.1.1.1.0.0 l.loop-j.j l.loop-j.invariant.0 turn)
 
-  count-le : count ≤ l.loop.j + 1
-  count-le = omega (arith, counted, inside-le at.args.column.now (at_row at.args.s.tmax at.args.row) (l.loop.j + 1))
+  count-le : count ≤ l.loop-j.j + 1
+  count-le = omega (arith, counted, inside-le at.args.column.now (at_row at.args.s.tmax at.args.row) (l.loop-j.j + 1))
 
   -- the cap tells whether the thickness is allowed
-  tells : ltb (get_or at.args.caps.now l.loop.j 0) greatest_cell ≡ allowed at.args.s.members (l.loop.j + 1)
-  tells = at.pre.1.1.1.0.1.are l.loop.j turn
+  tells : ltb (get_or at.args.caps.now l.loop-j.j 0) greatest_cell ≡ allowed at.args.s.members (l.loop-j.j + 1)
+  tells = at.requires.1.1.1.0.1.are l.loop-j.j turn
 
   -- what is added where it is
-  more : allowed at.args.s.members (l.loop.j + 1) ≡ true
-      → min count (l.loop.j + 1 - count) ≡ addend at.args.s.members (column_of at.args.column.now) (at.args.row * at.args.s.tmax + l.loop.j)
-  more e = adds-counted at.pre.0 at.pre.1.1.0.0 at.pre.1.1.0.1 l.loop.j turn count counted e
+  more : allowed at.args.s.members (l.loop-j.j + 1) ≡ true
+      → min count (l.loop-j.j + 1 - count) ≡ addend at.args.s.members (column_of at.args.column.now) (at.args.row * at.args.s.tmax + l.loop-j.j)
+  more e = adds-counted at.requires.0 at.requires.1.1.0.0 at.requires.1.1.0.1 l.loop-j.j turn count counted e
 
   -- the table is as long as it was
-  long : at.args.row * at.args.s.tmax + l.loop.j < length l.loop.table
-  long = omega (arith, place, at.pre.1.0.1, l.loop.inv.4.long)
+  long : at.args.row * at.args.s.tmax + l.loop-j.j < length l.loop-j.table
+  long = omega (arith, place, at.requires.1.0.1, l.loop-j.invariant.4.long)
 
 -- up to the first boundary nothing is added
-loop-holds : tie.Need-loop-init invariant-loop decreases-loop
+loop-holds : tie.Need-loop-j-init invariant-loop decreases-loop
 loop-holds c =
-    let s = c.before.before.before.before in
+    let s = c in
     let f = s.requires.1.1.0.1 in
     let o = s.requires.1.1.0.0 in (
       omega arith,
       omega (arith, f.near),
-      omega (arith, c.before.row-end.ensures, s.requires.0.thick),
-      c.inside-among.ensures ∙ sym (inside-below s.args.column.now o.rising s.requires.0.thick f s.args.first (omega arith)),
+      omega (arith, c.row_end-end.ensures, s.requires.0.thick),
+      c.inside_among-inside.ensures ∙ sym (inside-below s.args.column.now o.rising s.requires.0.thick f s.args.first (omega arith)),
       span_rest s.args.first (span_none (s.args.row * s.args.s.tmax) _ s.args.table.now) (omega arith)
           (λ j u v. omega (arith, adds-before s.requires.0 o f j (omega (arith, f.near)) v)),
     )
 
-loop-again : tie.Need-loop-preserved invariant-loop decreases-loop
+loop-again : tie.Need-loop-j-preserved-then-cap-lt4294967295 invariant-loop decreases-loop
 loop-again c =
-    let d = c.before.before.before.before.before.before in
+    let d = c.before.before.before.before.before.before.before.before in
     let l = d.before in
     let s = S l in
-    let a = sym (tells d) ∙ lt-ltb _ greatest_cell c.before.before.if1.true in (
+    let a = sym (tells d) ∙ lt-ltb _ greatest_cell c.if-cap-lt4294967295.true in (
       omega arith,
       omega (arith, turn d),
-      l.loop.invariant.2,
+      l.loop-j.invariant.2,
       counted d,
-      span_set l.loop.invariant.4 _ _ refl (long d) (ap (λ (y : ℕ). get_or l.loop.table (s.args.row * s.args.s.tmax + l.loop.j) 0 + y) (c.lesser.ensures ∙ more d a)),
+      span_set l.loop-j.invariant.4 _ _ refl (long d) (ap (λ (y : ℕ). get_or l.loop-j.table (s.args.row * s.args.s.tmax + l.loop-j.j) 0 + y) (c.lesser.ensures ∙ more d a)),
     )
 
-loop-again-2 : tie.Need-loop-preserved-2 invariant-loop decreases-loop
+loop-again-2 : tie.Need-loop-j-preserved invariant-loop decreases-loop
 loop-again-2 c =
-    let d = c.before.before.before.before in
-    let l = d.before in
-    let s = S l in
-    let a = sym (tells d) ∙ le-ltb (get_or s.args.caps.now l.loop.j 0) greatest_cell (omega (arith, c.if1.false)) in (
-      omega arith,
-      omega (arith, turn d),
-      l.loop.invariant.2,
-      counted d,
-      span-keep l.loop.invariant.4 (omega (arith, adds-barred s.pre.0 s.pre.1.1.0.0 s.pre.1.1.0.1 l.loop.j (turn d) a)),
-    )
-
-add-table : tie.Need-overflow-add-table invariant-loop decreases-loop
-add-table c =
     let d = c.before.before.before.before.before.before in
     let l = d.before in
     let s = S l in
-    let a = sym (tells d) ∙ lt-ltb _ greatest_cell c.before.before.if1.true in
-    omega (arith, span-unread l.loop.invariant.4 (s.args.row * s.args.s.tmax + l.loop.j) refl, s.pre.1.1.1.1 l.loop.j (turn d), c.lesser.ensures ∙ more d a)
+    let a = sym (tells d) ∙ le-ltb (get_or s.args.caps.now l.loop-j.j 0) greatest_cell (omega (arith, c.if-cap-lt4294967295.false)) in (
+      omega arith,
+      omega (arith, turn d),
+      l.loop-j.invariant.2,
+      counted d,
+      span-keep l.loop-j.invariant.4 (omega (arith, adds-barred s.requires.0 s.requires.1.1.0.0 s.requires.1.1.0.1 l.loop-j.j (turn d) a)),
+    )
 
-pub add-row-spec : {M : Type 1} → statement M
-add-row-spec =
+add-table : tie.Need-overflow_add-table invariant-loop decreases-loop
+add-table c =
+    let d = c.before.before.before.before.before.before.before.before in
+    let l = d.before in
+    let s = S l in
+    let a = sym (tells d) ∙ lt-ltb _ greatest_cell c.if-cap-lt4294967295.true in
+    omega (arith, span-unread l.loop-j.invariant.4 (s.args.row * s.args.s.tmax + l.loop-j.j) refl, s.requires.1.1.1.1 l.loop-j.j (turn d), c.lesser.ensures ∙ more d a)
+
+pub add_row_spec : {M : Type 1} → statement M
+add_row_spec =
     tie.close
     (tie.spec
     invariant-loop
     decreases-loop
     (λ c κs. search rules)
-    (λ c. let s = c.before.before.before in omega (arith, s.requires.1.1.0.1.near, s.requires.0.thick))
+    (λ c. let s = c in omega (arith, s.requires.1.1.0.1.near, s.requires.0.thick))
     (λ c κs. search rules)
     loop-holds
-    (λ c. let d = c.before in omega (arith, place d, (S d.before).pre.0.few-cells))
-    (λ c. let d = c.before in omega (arith, place d, (S d.before).pre.0.few-cells))
-    (λ c. let d = c.before in omega (arith, turn d, (S d.before).pre.0.thick))
-    (λ c. let d = c.before in omega (arith, turn d, (S d.before).pre.0.thick))
-    (λ c. let d = c.before.before in d.before.loop.invariant.0)
-    (λ c. let d = c.before.before in omega (arith, turn d, (S d.before).pre.0.thick))
-    (λ c. let d = c.before.before in omega (arith, turn d, (S d.before).pre.0.thick))
-    (λ c. let d = c.before.before.before in omega (arith, count-le d, turn d, (S d.before).pre.0.thick))
-    (λ c. let d = c.before.before.before in omega (arith, turn d, (S d.before).pre.0.thick))
-    (λ c. let d = c.before.before.before.before in omega (arith, place d, (S d.before).pre.0.few-cells))
-    (λ c. long c.before.before.before.before.before)
-    (λ c. let d = c.before.before.before.before.before in omega (arith, turn d, (S d.before).pre.0.thick))
-    (λ c. count-le c.before.before.before.before.before)
+    (λ c. let d = c.before in omega (arith, place d, (S d.before).requires.0.few-cells))
+    (λ c. let d = c.before in omega (arith, place d, (S d.before).requires.0.few-cells))
+    (λ c. let d = c.before in omega (arith, turn d, (S d.before).requires.0.thick))
+    (λ c. let d = c.before.before in omega (arith, turn d, (S d.before).requires.0.thick))
+    (λ c. let d = c in d.loop-j.invariant.0)
+    (λ c. let d = c.before.before.before in omega (arith, turn d, (S d.before).requires.0.thick))
+    (λ c. let d = c.before.before.before.before in omega (arith, turn d, (S d.before).requires.0.thick))
+    (λ c. let d = c.before.before.before.before.before in omega (arith, count-le d, turn d, (S d.before).requires.0.thick))
+    (λ c. let d = c.before.before.before.before.before in omega (arith, turn d, (S d.before).requires.0.thick))
+    (λ c. let d = c.before.before.before.before.before.before in omega (arith, place d, (S d.before).requires.0.few-cells))
+    (λ c. long c.before.before.before.before.before.before.before)
+    (λ c. let d = c.before.before.before.before.before.before.before in omega (arith, turn d, (S d.before).requires.0.thick))
+    (λ c. count-le c.before.before.before.before.before.before.before)
     (λ c κs. search rules)
     add-table
-    (λ c. let d = c.before.before.before.before.before.before in omega (arith, place d, (S d.before).pre.0.few-cells))
-    (λ c. long c.before.before.before.before.before.before)
-    (λ c. let d = c.before.before.before.before.before.before in omega (arith, turn d))
+    (λ c. let d = c.before.before.before.before.before.before.before.before in omega (arith, place d, (S d.before).requires.0.few-cells))
+    (λ c. long c.before.before.before.before.before.before.before.before)
+    (λ c. let d = c.before.before.before.before.before.before.before.before in omega (arith, turn d))
     loop-again
-    (λ c. let d = c.before.before.before.before in omega (arith, turn d))
+    (λ c. let d = c.before.before.before.before.before.before in omega (arith, turn d))
     loop-again-2
-    (λ c. c.before.loop.invariant.4.long)
-    (λ c. let l = c.before in span-end _ l.loop.invariant.4 (omega arith) (omega (arith, l.loop.invariant.2))))
+    (λ c. c.loop-j.invariant.4.long)
+    (λ c. let l = c in span-end _ l.loop-j.invariant.4 (omega arith) (omega (arith, l.loop-j.invariant.2))))

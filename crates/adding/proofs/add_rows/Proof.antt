@@ -14,96 +14,96 @@ use Rattle.adding.proofs.Near.{reached-none, reached-in, reached-near, reached-n
 use Rattle.adding.proofs.add_rows.Statement.{statement}
 use Rattle.adding.proofs.add_rows.Tie as tie
 
-abbrev invariant-loop : tie.invariant-loop
+abbrev invariant-loop : tie.invariant-loop-passed
 invariant-loop table₀ column caps s states₀ passed₀ row₀ table states passed row =
     Reached column s.tmax s.rows passed row × (length states ≡ 32) × Span 0 0 (row * s.tmax) (λ i x. x + addend s.members (column_of column) i) table₀ table
 
-abbrev decreases-loop : tie.decreases-loop
+abbrev decreases-loop : tie.decreases-loop-passed
 decreases-loop table₀ column caps s states₀ passed₀ row₀ table states passed row = length column - passed
 
-abbrev S : tie.At-loop invariant-loop decreases-loop → tie.Start invariant-loop decreases-loop
+abbrev S : tie.At-loop-passed invariant-loop decreases-loop → tie.Start invariant-loop decreases-loop
 S l = l.before.before.before
 
 -- a turn
-module _ (d : tie.After-later invariant-loop decreases-loop) where
-  abbrev l : tie.At-loop invariant-loop decreases-loop
+module _ (d : tie.After-later-from invariant-loop decreases-loop) where
+  abbrev l : tie.At-loop-passed invariant-loop decreases-loop
   l = d.before.before.before.before.before.before.before.before
 
   abbrev at : tie.Start invariant-loop decreases-loop
   at = S l
 
   abbrev from : ℕ
-  from = d.later.result
+  from = d.later-from.result
 
   abbrev boundary : ℕ
-  boundary = d.before.before.before.before.before.before.boundary-at.result
+  boundary = d.boundary_at-boundary.result
 
   abbrev to : ℕ
   to = boundary + at.args.s.tmax - 1
 
-  is : boundary ≡ get_or at.args.column.now l.loop.passed 0
-  is = d.before.before.before.before.before.before.boundary-at.ensures.0
+  is : boundary ≡ get_or at.args.column.now l.loop-passed.passed 0
+  is = d.boundary_at-boundary.ensures.0
 
-  there : l.loop.passed < length at.args.column.now
-  there = d.before.before.before.before.before.before.before.loop-test.taken
+  there : l.loop-passed.passed < length at.args.column.now
+  there = d.loop-passed-test.true
 
   in_rows : to ≤ at.args.s.rows
-  in_rows = reached-in at.pre.0 at.pre.1.1.0.0 l.loop.inv.0 there boundary is
+  in_rows = reached-in at.requires.0 at.requires.1.1.0.0 l.loop-passed.invariant.0 there boundary is
 
-  reach : Near at.args.column.now at.args.s.tmax from to l.loop.passed
-  reach = reached-near at.pre.0 at.pre.1.1.0.0 l.loop.inv.0 there boundary is from d.later.ensures
+  reach : Near at.args.column.now at.args.s.tmax from to l.loop-passed.passed
+  reach = reached-near at.requires.0 at.requires.1.1.0.0 l.loop-passed.invariant.0 there boundary is from d.later-from.ensures
 
   -- the rows passed over are rewritten as they stand
-  skipped : Span 0 0 (from * at.args.s.tmax) (λ i x. x + addend at.args.s.members (column_of at.args.column.now) i) at.args.table.now l.loop.table
+  skipped : Span 0 0 (from * at.args.s.tmax) (λ i x. x + addend at.args.s.members (column_of at.args.column.now) i) at.args.table.now l.loop-passed.table
   skipped =
-      span-calm at.pre.0 at.pre.1.1.0.0 l.loop.row from (rows-le _ _ _ (omega (arith, d.later.ensures)))
-      (calm-skip at.pre.0 at.pre.1.1.0.0 l.loop.inv.0 from boundary is d.later.ensures) l.loop.inv.2
+      span-calm at.requires.0 at.requires.1.1.0.0 l.loop-passed.row from (rows-le _ _ _ (omega (arith, d.later-from.ensures)))
+      (calm-skip at.requires.0 at.requires.1.1.0.0 l.loop-passed.invariant.0 from boundary is d.later-from.ensures) l.loop-passed.invariant.2
 
-loop-again : tie.Need-loop-preserved invariant-loop decreases-loop
+loop-again : tie.Need-loop-passed-preserved invariant-loop decreases-loop
 loop-again c =
     let d = c.before.before.before.before.before in
     let s = S (l d) in
     let u = rows-le (from d) (to d) s.args.s.tmax (reach d).order in (
-      reached-next s.pre.0 s.pre.1.1.0.0 (l d).loop.invariant.0 (there d) (boundary d) (is d),
-      c.before.before.before.before.before.before.before.fill-states.ensures.long ∙ (l d).loop.invariant.1,
-      span-end _ (span_more _ _ (omega arith) (skipped d) c.before.before.add-near.ensures) (omega (arith, u)) (omega (arith, u)),
+      reached-next s.requires.0 s.requires.1.1.0.0 (l d).loop-passed.invariant.0 (there d) (boundary d) (is d),
+      c.fill_states.ensures.long ∙ (l d).loop-passed.invariant.1,
+      span-end _ (span_more _ _ (omega arith) (skipped d) c.add_near.ensures) (omega (arith, u)) (omega (arith, u)),
     )
 
 returns : tie.Need-returns invariant-loop decreases-loop
 returns c =
     let m = c.before in
     let s = S m in
-    let k = s.pre.0 in
+    let k = s.requires.0 in
     span-end _
-    (span-calm k s.pre.1.1.0.0 m.loop.row s.args.s.rows (rows-le _ _ _ m.loop.invariant.0.low)
-    (λ r u v. calm-end k s.pre.1.1.0.0 (omega arith) m.loop.invariant.0 r u) m.loop.invariant.2)
+    (span-calm k s.requires.1.1.0.0 m.loop-passed.row s.args.s.rows (rows-le _ _ _ m.loop-passed.invariant.0.low)
+    (λ r u v. calm-end k s.requires.1.1.0.0 (omega arith) m.loop-passed.invariant.0 r u) m.loop-passed.invariant.2)
     (omega (arith, k.cells_are)) (omega (arith, k.cells_are))
 
-pub add-rows-spec : {M : Type 1} → statement M
-add-rows-spec =
+pub add_rows_spec : {M : Type 1} → statement M
+add_rows_spec =
     tie.close
     (tie.spec
     invariant-loop
     decreases-loop
-    (λ c. let s = c.before.before in (reached-none s.requires.0 s.requires.1.1.0.0, refl, span-end _ (span_none 0 _ _) (omega arith) (omega arith)))
+    (λ c. let s = c in (reached-none s.requires.0 s.requires.1.1.0.0, refl, span-end _ (span_none 0 _ _) (omega arith) (omega arith)))
     (λ c κs. search rules)
-    (λ c. omega (arith, c.before.boundary-at.ensures.1, c.before.before.before.before.before.before.requires.0.thick))
-    (λ c. let k = c.before.before.before.before.before.before.requires.0 in omega (arith, k.thin, k.order))
-    (λ c. sym c.before.before.before.before.loop.invariant.1)
-    (λ c. let k = c.before.before.before.before.before.before.before.before.requires.0 in omega (arith, k.thin, k.order))
+    (λ c. omega (arith, c.boundary_at-boundary.ensures.1, c.requires.0.thick))
+    (λ c. let k = c.requires.0 in omega (arith, k.thin, k.order))
+    (λ c. sym c.loop-passed.invariant.1)
+    (λ c. let k = c.requires.0 in omega (arith, k.thin, k.order))
     (λ c κs. search rules)
     (λ c κs. search rules)
     (λ c κs.
     let d = c.before.before in
     let s = S (l d) in (
-      s.pre.0,
+      s.requires.0,
       (
-        (in_rows d, omega (arith, s.pre.1.0, (l d).loop.invariant.2.long)),
+        (in_rows d, omega (arith, s.requires.1.0, (l d).loop-passed.invariant.2.long)),
         (
-          (s.pre.1.1.0.0, reach d),
+          (s.requires.1.1.0.0, reach d),
           (
-            (states-filled (s.args.s.tmax - 1) (omega (arith, s.pre.0.thick, (l d).loop.invariant.1)) c.before.before.before.before.fill-states.ensures, s.pre.1.1.0.1),
-            λ i u v. omega (arith, (skipped d).above i (omega arith), s.pre.1.1.1 i v),
+            (states-filled (s.args.s.tmax - 1) (omega (arith, s.requires.0.thick, (l d).loop-passed.invariant.1)) c.fill_states.ensures, s.requires.1.1.0.1),
+            λ i u v. omega (arith, (skipped d).above i (omega arith), s.requires.1.1.1 i v),
           ),
         ),
       ),
@@ -111,5 +111,5 @@ add-rows-spec =
     (λ c. omega (arith, there c.before.before.before.before.before))
     (λ c. omega (arith, there c.before.before.before.before.before))
     loop-again
-    (λ c. c.before.loop.invariant.2.long)
+    (λ c. c.loop-passed.invariant.2.long)
     returns)

@@ -11,27 +11,27 @@ use Rattle.table.specs.Limits.{above}
 use Rattle.adding.proofs.any_above_cap.Statement.{statement}
 use Rattle.adding.proofs.any_above_cap.Tie as tie
 
-abbrev invariant-loop : tie.invariant-loop
+abbrev invariant-loop : tie.invariant-loop-j
 invariant-loop table caps base first width end found₀ j₀ found j =
     (j ≤ width) × (end ≡ width) × (found ≡ false → (i : ℕ) → i < j → first ≤ i → above caps table base i ≡ false)
 
-abbrev decreases-loop : tie.decreases-loop
+abbrev decreases-loop : tie.decreases-loop-j
 decreases-loop table caps base first width end found₀ j₀ found j = width - j
 
-loop-again : tie.Need-loop-preserved invariant-loop decreases-loop
+loop-again : tie.Need-loop-j-preserved invariant-loop decreases-loop
 unfolding above
 loop-again c =
-    let l = c.before.before.before.loop.invariant in
+    let l = c.loop-j.invariant in
     (omega (arith, l.1), l.1, λ z. let e = or-false _ _ z in below_more _ _ (l.2 e.0) (λ u. e.1))
 
-pub any-above-cap-spec : {M : Type 1} → statement M
-any-above-cap-spec =
+pub any_above_cap_spec : {M : Type 1} → statement M
+any_above_cap_spec =
     tie.close
     (tie.spec
     invariant-loop
     decreases-loop
     (λ c κs. search rules)
-    (λ c. (omega arith, omega (arith, c.row-end.ensures), λ z i l u. absurd (omega arith)))
+    (λ c. (omega arith, omega (arith, c.row_end-end.ensures), λ z i l u. absurd (omega arith)))
     (λ c. search rules)
     (λ c. search rules)
     (λ c. search rules)
@@ -40,4 +40,4 @@ any-above-cap-spec =
     (λ c. search rules)
     (λ c. search rules)
     loop-again
-    (λ c. λ z i l u. c.before.loop.invariant.2 z i (omega arith) u))
+    (λ c. λ z i l u. c.loop-j.invariant.2 z i (omega arith) u))

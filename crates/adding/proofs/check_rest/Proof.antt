@@ -21,25 +21,25 @@ use Rattle.adding.specs.Ordered.{order_rest}
 use Rattle.adding.proofs.check_rest.Statement.{statement}
 use Rattle.adding.proofs.check_rest.Tie as tie
 
-returns : tie.Need-returns
+returns : tie.Need-returns-then-table-s
 unfolding order_rest short
 returns c =
-    let s = c.before.before.before.before.before in
+    let s = c in
     let h : length s.args.table.now < cells_of s.args.head = omega (arith, cells-for s.requires) in
-    judges-bad _ _ _ _ _ (ap Bad c.refusal-at.ensures) (simp (lt-ltb _ _ h))
+    judges-bad _ _ _ _ _ (ap Bad c.refusal_at.ensures) (simp (lt-ltb _ _ h))
 
 -- past 3, and past 7
-room : (c : tie.Else1) → cells_of c.before.before.before.before.args.head ≤ length c.before.before.before.before.args.table.now
-room c = omega (arith, cells-for c.before.before.before.before.requires)
+room : (c : tie.Else-table-s) → cells_of c.args.head ≤ length c.args.table.now
+room c = omega (arith, cells-for c.requires)
 
-few : (c : tie.Else2) → is_full c.before.before.before.before.before.before.args.head ≡ false
-few c = sym c.before.is-full.ensures ∙ c.if2.false
+few : (c : tie.Else-is_full) → is_full c.args.head ≡ false
+few c = sym c.is_full.ensures ∙ c.if-is_full.false
 
-returns-2 : tie.Need-returns-2
+returns-2 : tie.Need-returns-then-is_full
 unfolding order_rest short
 returns-2 c =
     let i = c.before.before in
-    judges-bad _ _ _ _ _ (ap Bad c.refusal-at2.ensures) (simp (le-ltb _ _ (room i.before), sym i.is-full.ensures ∙ c.before.if2.true))
+    judges-bad _ _ _ _ _ (ap Bad c.refusal_at-then-is_full.ensures) (simp (le-ltb _ _ (room i.before), sym i.is_full.ensures ∙ c.if-is_full.true))
 
 -- past both, what the column's own checks say, at the table's height, is said
 column-said : (held : Held) (column : Column) → cells_of held.head ≤ length held.buffer → is_full held.head ≡ false
@@ -47,15 +47,15 @@ column-said : (held : Held) (column : Column) → cells_of held.head ≤ length 
 unfolding order_rest short
 column-said held column room few said e = simp (le-ltb _ _ room, few) e
 
-order : (c : tie.After-check-column) → let s : tie.Start = c.before.before.before.before.before.before.before in
-    said_by c.check-column.result ≡ first (order_rest (held_in s.args.head s.args.table.now) (column_of s.args.column.now))
+order : (c : tie.After-check_column-order) → let s : tie.Start = c.before.before.before.before.before.before.before in
+    said_by c.check_column-order.result ≡ first (order_rest (held_in s.args.head s.args.table.now) (column_of s.args.column.now))
 order c =
-    let s = c.before.before.before.before.before.before.before in
+    let s = c in
     column-said (held_in s.args.head s.args.table.now) (column_of s.args.column.now) (room c.before.before.before) (few c.before) _
-    (c.check-column.ensures ∙ ap (λ (N : ℕ). first (column_checks N s.args.column.now)) (height-for s.requires))
+    (c.check_column-order.ensures ∙ ap (λ (N : ℕ). first (column_checks N s.args.column.now)) (height-for s.requires))
 
-pub check-rest-spec : {M : Type 1} → statement M
-check-rest-spec =
+pub check_rest_spec : {M : Type 1} → statement M
+check_rest_spec =
     tie.close
     (tie.spec
     (λ c κs. search rules)
@@ -65,9 +65,9 @@ check-rest-spec =
     returns-2
     (λ c κs. search rules)
     (λ c. search rules)
-    (λ c. let o = c.before.order.given in judges-bad _ _ _ _ o.0.0 refl (ap said_by (sym o.1) ∙ order c.before.before.before))
+    (λ c. let o = c.in-Refused in judges-bad _ _ _ _ o.refusal refl (ap said_by (sym o.is) ∙ order c.before))
     (λ c. search rules)
     (λ c.
-    let d = c.before.before in
-    let k = d.before.before.before.before.before.before.before.requires in
-    judges-good _ _ _ _ _ refl (k.is, k.sound) (ap said_by (sym c.enum_told.given.1) ∙ order d)))
+    let d = c.before in
+    let k = d.requires in
+    judges-good _ _ _ _ _ refl (k.is, k.sound) (ap said_by (sym c.in_default.is) ∙ order d)))

@@ -17,14 +17,14 @@ use Rattle.adding.proofs.Near.{heaped-before, heaped-no, heaped-yes}
 use Rattle.adding.proofs.heaped_row.Statement.{statement}
 use Rattle.adding.proofs.heaped_row.Tie as tie
 
-abbrev invariant-loop : tie.invariant-loop
+abbrev invariant-loop : tie.invariant-loop-j
 invariant-loop table column caps s row k first base j₀ j =
     (first ≤ j) × (j ≤ s.tmax) × ((i : ℕ) → i < j → heaped s.members caps table (column_of column) (row * s.tmax) i ≡ false)
 
-abbrev decreases-loop : tie.decreases-loop
+abbrev decreases-loop : tie.decreases-loop-j
 decreases-loop table column caps s row k first base j₀ j = s.tmax - j
 
-abbrev S : tie.At-loop invariant-loop decreases-loop → tie.Start invariant-loop decreases-loop
+abbrev S : tie.At-loop-j invariant-loop decreases-loop → tie.Start invariant-loop decreases-loop
 S l = l.before.before.before.before.before.before
 
 -- a cell of the row that is not one
@@ -33,14 +33,14 @@ module _ (s : tie.Start invariant-loop decreases-loop) (j : ℕ) (u : j < s.args
   Heaped = heaped s.args.s.members s.args.caps.now s.args.table.now (column_of s.args.column.now) (s.args.row * s.args.s.tmax) j ≡ false
 
   early : j < s.args.first → Heaped
-  early l = heaped-before s.pre.0 s.pre.1.1.0.0 s.pre.1.1.0.1 j u s.args.caps.now s.args.table.now l
+  early l = heaped-before s.requires.0 s.requires.1.1.0.0 s.requires.1.1.0.1 j u s.args.caps.now s.args.table.now l
 
   place : s.args.row * s.args.s.tmax + j < s.args.s.cells
-  place = cell_in s.pre.0 s.args.row s.pre.1.0.0 j u
+  place = cell_in s.requires.0 s.args.row s.requires.1.0.0 j u
 
   -- from the first boundary on, where it is not above its cap; and so anywhere
   late : above s.args.caps.now s.args.table.now (s.args.row * s.args.s.tmax) j ≡ false → Heaped
-  late e = heaped-no s.pre.0 s.pre.1.1.0.0 s.pre.1.1.0.1 j u s.args.caps.now s.args.table.now e
+  late e = heaped-no s.requires.0 s.requires.1.1.0.0 s.requires.1.1.0.1 j u s.args.caps.now s.args.table.now e
 
   anywhere : (s.args.first ≤ j → above s.args.caps.now s.args.table.now (s.args.row * s.args.s.tmax) j ≡ false) → Heaped
   anywhere f = go (dec_lt j s.args.first)
@@ -49,48 +49,48 @@ module _ (s : tie.Start invariant-loop decreases-loop) (j : ℕ) (u : j < s.args
       go (yes l) = early l
       go (no l) = late (f (omega arith))
 
-returns : tie.Need-returns invariant-loop decreases-loop
+returns : tie.Need-returns-then-not-any_above_cap invariant-loop decreases-loop
 returns c =
     let s = c.before.before.before.before.before in
-    missed _ _ _ (omega arith) (omega arith) (λ j u. anywhere s j u (λ l. c.before.any-above-cap.ensures (not-true _ c.if1.true) j u l))
+    missed _ _ _ (omega arith) (omega arith) (λ j u. anywhere s j u (λ l. c.any_above_cap.ensures (c.if-not-any_above_cap.true) j u l))
 
-loop-again : tie.Need-loop-preserved invariant-loop decreases-loop
+loop-again : tie.Need-loop-j-preserved invariant-loop decreases-loop
 loop-again c =
-    let l = c.before.before.before.before.before in
+    let l = c.before.before.before.before.before.before in
     let s = S l in
-    let u : l.loop.j < s.args.s.tmax = omega arith in (
+    let u : l.loop-j.j < s.args.s.tmax = omega arith in (
       omega arith,
       omega arith,
-      below_more _ _ l.loop.invariant.2
-          (late s l.loop.j u (above-no _ _ _ _ c.if3.false)),
+      below_more _ _ l.loop-j.invariant.2
+          (late s l.loop-j.j u (above-no _ _ _ _ c.if-caps-j.false)),
     )
 
-returns-2 : tie.Need-returns-2 invariant-loop decreases-loop
+returns-2 : tie.Need-returns-then-caps-j invariant-loop decreases-loop
 returns-2 c =
-    let l = c.before.before.before.before.before in
+    let l = c.before.before.before.before.before.before in
     let s = S l in
-    let u : l.loop.j < s.args.s.tmax = omega arith in
-    found _ _ _ u l.loop.invariant.2
-    (heaped-yes s.pre.0 s.pre.1.1.0.0 s.pre.1.1.0.1 l.loop.j u s.args.caps.now s.args.table.now l.loop.invariant.0 s.pre.1.1.1 c.if3.true
-    (omega (arith, c.before.before.before.before.before.before.before.before.before.before.shared-slice-known.given (s.args.row * s.args.s.tmax + l.loop.j))))
+    let u : l.loop-j.j < s.args.s.tmax = omega arith in
+    found _ _ _ u l.loop-j.invariant.2
+    (heaped-yes s.requires.0 s.requires.1.1.0.0 s.requires.1.1.0.1 l.loop-j.j u s.args.caps.now s.args.table.now l.loop-j.invariant.0 s.requires.1.1.1 c.if-caps-j.true
+    (omega (arith, c.shared_slice_known-1.given (s.args.row * s.args.s.tmax + l.loop-j.j))))
 
-pub heaped-row-spec : {M : Type 1} → statement M
-heaped-row-spec =
+pub heaped_row_spec : {M : Type 1} → statement M
+heaped_row_spec =
     tie.close
     (tie.spec
     invariant-loop
     decreases-loop
-    (λ c. let s = c.before.before.before in omega (arith, row_in s.requires.0 s.args.row (omega arith), s.requires.0.few-cells))
-    (λ c κs. let s = c.before.before.before in (omega (arith, s.requires.1.1.0.1.near), (s.requires.0.thick, omega (arith, row_in s.requires.0 s.args.row (omega arith), s.requires.1.0.1))))
+    (λ c. let s = c in omega (arith, row_in s.requires.0 s.args.row (omega arith), s.requires.0.few-cells))
+    (λ c κs. let s = c in (omega (arith, s.requires.1.1.0.1.near), (s.requires.0.thick, omega (arith, row_in s.requires.0 s.args.row (omega arith), s.requires.1.0.1))))
     returns
     (λ c. let s = c.before.before.before.before.before in (omega arith, omega (arith, s.requires.1.1.0.1.near), λ i u. early s i (omega (arith, s.requires.1.1.0.1.near)) u))
-    (λ c. let s = c.before.before.before.before.before.before.before.before in omega (arith, s.requires.0.thick))
-    (λ c. let s = c.before.before.before.before.before.before.before.before in omega (arith, s.requires.0.thick))
-    (λ c. let s = c.before.before.before.before.before.before.before.before.before in omega (arith, place s c.before.before.before.loop.j (omega arith), s.requires.0.few-cells))
-    (λ c. let s = c.before.before.before.before.before.before.before.before.before in omega (arith, place s c.before.before.before.loop.j (omega arith), s.requires.0.few-cells))
-    (λ c. let s = c.before.before.before.before.before.before.before.before.before.before in omega (arith, place s c.before.before.before.before.loop.j (omega arith), s.requires.1.0.1))
+    (λ c. let s = c in omega (arith, s.requires.0.thick))
+    (λ c. let s = c in omega (arith, s.requires.0.thick))
+    (λ c. let s = c.before.before.before.before.before.before.before.before.before.before in omega (arith, place s c.loop-j.j (omega arith), s.requires.0.few-cells))
+    (λ c. let s = c.before.before.before.before.before.before.before.before.before.before in omega (arith, place s c.loop-j.j (omega arith), s.requires.0.few-cells))
+    (λ c. let s = c.before.before.before.before.before.before.before.before.before.before.before in omega (arith, place s c.loop-j.j (omega arith), s.requires.1.0.1))
     returns-2
-    (λ c. let s = c.before.before.before.before.before.before.before.before.before.before.before in omega (arith, s.requires.0.thick))
+    (λ c. let s = c in omega (arith, s.requires.0.thick))
     (λ c. omega arith)
     loop-again
-    (λ c. missed _ _ _ (omega arith) (omega arith) c.before.before.loop.invariant.2))
+    (λ c. missed _ _ _ (omega arith) (omega arith) c.loop-j.invariant.2))

@@ -11,14 +11,14 @@ use Rattle.record.specs.Bytes.{words}
 use Rattle.job.proofs.check_at.Statement.{statement}
 use Rattle.job.proofs.check_at.Tie as tie
 
-pub check-at-spec : {M : Type 1} → statement M
-check-at-spec =
+pub check_at_spec : {M : Type 1} → statement M
+check_at_spec =
     tie.close
     (tie.spec
     (λ c. search rules)
-    (λ c. sym (length-take-le _ _ c.before.before.requires))
+    (λ c. sym (length-take-le _ _ c.requires))
     (λ c κs. search rules)
     (λ c.
-    let a = c.before.before.before.before.args in
-    c.before.check-decoded.ensures
-    ∙ ap (λ (n : ℕ). first (column_checks a.height (words a.input.now a.start n))) (length-take-le {A = ℕ} a.count (replicate most_boundaries 0) c.before.before.before.before.requires)))
+    let a = c.args in
+    c.check_decoded.ensures
+    ∙ ap (λ (n : ℕ). first (column_checks a.height (words a.input.now a.start n))) (length-take-le {A = ℕ} a.count (replicate most_boundaries 0) c.requires)))

@@ -8,13 +8,13 @@ use Rattle.column.specs.Order.{column_checks}
 use Rattle.job.proofs.check_decoded.Statement.{statement}
 use Rattle.job.proofs.check_decoded.Tie as tie
 
-pub check-decoded-spec : {M : Type 1} → statement M
-check-decoded-spec =
+pub check_decoded_spec : {M : Type 1} → statement M
+check_decoded_spec =
     tie.close
     (tie.spec
     (λ c κs. search rules)
     (λ c κs. search rules)
     (λ c. search rules)
     (λ c.
-    c.check-column.ensures
-    ∙ ap (λ (bs : List ℕ). first (column_checks c.before.before.before.before.before.before.before.before.args.height bs)) c.before.before.before.before.read-words.ensures))
+    c.check_column.ensures
+    ∙ ap (λ (bs : List ℕ). first (column_checks c.args.height bs)) c.read_words.ensures))

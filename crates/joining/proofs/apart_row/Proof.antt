@@ -5,11 +5,11 @@ use Rattle.lists.proofs.Search.{lowest-none}
 use Rattle.joining.proofs.apart_row.Statement.{statement}
 use Rattle.joining.proofs.apart_row.Tie as tie
 
-pub apart-row-spec : {M : Type 1} → statement M
-apart-row-spec =
+pub apart_row_spec : {M : Type 1} → statement M
+apart_row_spec =
     tie.close
     (tie.spec
-    (λ c κs. c.before.before.requires)
-    (λ c. sym (lowest-none _ _ (c.before.any-apart.ensures (not-true _ c.if1.true))))
+    (λ c κs. c.requires)
+    (λ c. sym (lowest-none _ _ (c.any_apart.ensures (c.if-not-any_apart.true))))
     (λ c κs. search rules)
-    (λ c. c.search-apart.ensures))
+    (λ c. c.search_apart.ensures))

@@ -8,27 +8,27 @@ use Rattle.joining.proofs.Passed.{pair-passed}
 use Rattle.joining.proofs.check_both.Statement.{statement}
 use Rattle.joining.proofs.check_both.Tie as tie
 
-returns : tie.Need-returns
+returns : tie.Need-returns-in-Bad
 unfolding both_checks
-returns c = let m = c.before.made.given in judges-bad _ _ _ _ _ refl (stopped c.before.before.before.pair_of.ensures _ m.0.0 m.1)
+returns c = let m = c.in-Bad in judges-bad _ _ _ _ _ refl (stopped c.pair_of-made.ensures _ m.refusal m.is)
 
-returns-2 : tie.Need-returns-2
+returns-2 : tie.Need-returns-in-Good
 unfolding both_checks
 returns-2 c =
-    let p = c.before.before.before.before in
-    let s = p.before.before.before in
-    judges-then _ _ _ (pair_checks s.args.head s.args.other-head) (sym (ap said_made (sym c.before.before.made2.given.1) ∙ p.pair_of.ensures.says)) c.check-rest.ensures
+    let p = c.before.before in
+    let s = p in
+    judges-then _ _ _ (pair_checks s.args.head s.args.other_head) (sym (ap said_made (sym c.in-Good.is) ∙ p.pair_of-made.ensures.says)) c.check_rest.ensures
 
-check-rest-requires : tie.Need-check-rest-requires
+check-rest-requires : tie.Need-check_rest-requires
 check-rest-requires c κs =
-    let p = c.before.before.before in
-    let s = p.before.before.before in
-    let g = p.pair_of.ensures.good _ c.before.made2.given.1 in
-    let k : SettingsFor s.args.head c.before.made2.given.0.0 = record { is = g.0; sound = g.1 } in
-    ((k, pair-passed s.args.head s.args.other-head k (ap said_made (sym c.before.made2.given.1) ∙ p.pair_of.ensures.says)), s.requires)
+    let p = c.before in
+    let s = p in
+    let g = p.pair_of-made.ensures.good _ c.in-Good.is in
+    let k : SettingsFor s.args.head c.in-Good.s = record { is = g.0; sound = g.1 } in
+    ((k, pair-passed s.args.head s.args.other_head k (ap said_made (sym c.in-Good.is) ∙ p.pair_of-made.ensures.says)), s.requires)
 
-pub check-both-spec : {M : Type 1} → statement M
-check-both-spec =
+pub check_both_spec : {M : Type 1} → statement M
+check_both_spec =
     tie.close
     (tie.spec
     (λ c κs. search rules)

@@ -21,29 +21,29 @@ module _ (held other : Held) where
   unfolding out_checks
   two_said e = sym (first-passed (out_cell held ∷ []) (out_cell other ∷ []) (sym e))
 
-pub check-cells-spec : {M : Type 1} → statement M
-check-cells-spec =
+pub check_cells_spec : {M : Type 1} → statement M
+check_cells_spec =
     tie.close
     (tie.spec
     (λ c κs. search rules)
     (λ c. search rules)
     (λ c.
-    let t = c.before.before.before in
-    let w = t.before.before.before.requires.0 in
-    one-said _ _ _ (ap said_made (sym c.before.made.given.1) ∙ t.check-table.ensures.says ∙ table-asks-cells _ w.fine w.room w.few))
+    let t = c in
+    let w = t.requires.0 in
+    one-said _ _ _ (ap said_made (sym c.in-Bad.is) ∙ t.check_table-made.ensures.says ∙ table-asks-cells _ w.fine w.room w.few))
     (λ c. search rules)
     (λ c κs. search rules)
     (λ c. search rules)
     (λ c.
-    let t = c.before.before.before in
-    let u = t.before.before.before in
-    let p = u.before.before.before.requires in
-    (ap said_made (sym c.before.second.given.1) ∙ t.check-table2.ensures.says ∙ table-asks-cells _ p.1.fine p.1.room p.1.few)
-    ∙ two_said _ _ (ap said_made (sym t.before.enum_told.given.1) ∙ u.check-table.ensures.says ∙ table-asks-cells _ p.0.fine p.0.room p.0.few))
+    let t = c.before in
+    let u = t in
+    let p = u.requires in
+    (ap said_made (sym c.in-Bad-second.is) ∙ t.check_table-second.ensures.says ∙ table-asks-cells _ p.1.fine p.1.room p.1.few)
+    ∙ two_said _ _ (ap said_made (sym t.in_default.is) ∙ u.check_table-made.ensures.says ∙ table-asks-cells _ p.0.fine p.0.room p.0.few))
     (λ c. search rules)
     (λ c.
-    let t = c.before.before in
-    let u = t.before.before.before in
-    let p = u.before.before.before.requires in
-    (ap said_made (sym c.enum-told2.given.1) ∙ t.check-table2.ensures.says ∙ table-asks-cells _ p.1.fine p.1.room p.1.few)
-    ∙ two_said _ _ (ap said_made (sym t.before.enum_told.given.1) ∙ u.check-table.ensures.says ∙ table-asks-cells _ p.0.fine p.0.room p.0.few)))
+    let t = c.before in
+    let u = t in
+    let p = u.requires in
+    (ap said_made (sym c.in_default-second.is) ∙ t.check_table-second.ensures.says ∙ table-asks-cells _ p.1.fine p.1.room p.1.few)
+    ∙ two_said _ _ (ap said_made (sym t.in_default.is) ∙ u.check_table-made.ensures.says ∙ table-asks-cells _ p.0.fine p.0.room p.0.few)))

@@ -25,24 +25,24 @@ module _ (held other : Held) where
     unfolding part_checks
     part-done h = rw (← e) (simp (fewer, le-ltb _ _ h))
 
-pub check-part-spec : {M : Type 1} → statement M
-check-part-spec =
+pub check_part_spec : {M : Type 1} → statement M
+check_part_spec =
     tie.close
     (tie.spec
     (λ c κs. search rules)
     (λ c κs. search rules)
-    (λ c. judges-bad _ _ _ _ _ (ap Bad c.refusal-at.ensures) (part-greater _ _ (sym c.before.before.is-less.ensures ∙ c.before.if1.true)))
-    (λ c κs. c.before.before.before.before.requires)
+    (λ c. judges-bad _ _ _ _ _ (ap Bad c.refusal_at.ensures) (part-greater _ _ (sym c.is_less.ensures ∙ c.if-is_less.true)))
+    (λ c κs. c.requires)
     (λ c κs. search rules)
     (λ c.
     let f = c.before.before.before in
-    let l = f.before.before in
-    let k = l.before.before.before.requires.0 in
-    judges-bad _ _ _ _ _ (ap Bad c.refusal-at2.ensures)
-    (part-not _ _ (sym l.is-less.ensures ∙ f.before.if1.false) _ f.first-not-part.ensures (omega (arith, cells-for k))))
+    let l = f in
+    let k = l.requires.0 in
+    judges-bad _ _ _ _ _ (ap Bad c.refusal_at-then-at-s.ensures)
+    (part-not _ _ (sym l.is_less.ensures ∙ f.if-is_less.false) _ f.first_not_part-at.ensures (omega (arith, cells-for k))))
     (λ c.
     let f = c.before.before in
-    let l = f.before.before in
-    let k = l.before.before.before.requires.0 in
+    let l = f in
+    let k = l.requires.0 in
     judges-good _ _ _ _ _ refl (k.is, k.sound)
-    (part-done _ _ (sym l.is-less.ensures ∙ f.before.if1.false) _ f.first-not-part.ensures (omega (arith, cells-for k)))))
+    (part-done _ _ (sym l.is_less.ensures ∙ f.if-is_less.false) _ f.first_not_part-at.ensures (omega (arith, cells-for k)))))

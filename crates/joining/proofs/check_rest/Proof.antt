@@ -13,57 +13,58 @@ use Rattle.joining.proofs.check_rest.Statement.{statement}
 use Rattle.joining.proofs.check_rest.Tie as tie
 
 -- past 3 and 7 the cells are left
+
 left : (beyond : Bool) (held other : Held) → cells_of held.head ≤ length held.buffer → cells_of other.head ≤ length other.buffer → beyond ≡ false
     → first (out_checks held other) ≡ first (rest_checks beyond held other)
 unfolding rest_checks short
 left beyond held other room room' few = simp (le-ltb _ _ room, le-ltb _ _ room', few)
 
-module _ (c : tie.Else1) where
+module _ (c : tie.Else-table-s) where
   abbrev s : tie.Start
   s = c.before.before.before.before
 
   room : cells_of s.args.head ≤ length s.args.table.now
-  room = omega (arith, cells-for s.pre.0.0)
+  room = omega (arith, cells-for s.requires.0.0)
 
-other-room : (c : tie.Else2) → cells_of (s c.before.before).args.other-head ≤ length (s c.before.before).args.other.now
-other-room c = omega (arith, cells-for (s c.before.before).pre.0.1)
+other-room : (c : tie.Else-other-s) → cells_of (s c.before.before).args.other_head ≤ length (s c.before.before).args.other.now
+other-room c = omega (arith, cells-for (s c.before.before).requires.0.1)
 
-whole : (c : tie.Else3) → let a = (s c.before.before.before).args in Whole (held_in a.head a.table.now) × Whole (held_in a.other-head a.other.now)
+whole : (c : tie.Else-beyond) → let a = (s c.before.before.before).args in Whole (held_in a.head a.table.now) × Whole (held_in a.other_head a.other.now)
 whole c =
     let d = c.before.before.before in
     let p = (s d).requires in
-    let f = or-false _ _ (p.1 c.if3.false) in (
+    let f = or-false _ _ (p.1 c.if-beyond.false) in (
       record { fine = head-fine p.0.0; room = room d; few = f.0 },
       record { fine = head-fine p.0.1; room = other-room c.before; few = f.1 },
     )
 
-said : (c : tie.After-check-cells) → let a = (s c.before.before.before.before).args in
-    said_by c.check-cells.result ≡ first (rest_checks a.beyond (held_in a.head a.table.now) (held_in a.other-head a.other.now))
+said : (c : tie.After-check_cells-checked) → let a = (s c.before.before.before.before).args in
+    said_by c.check_cells-checked.result ≡ first (rest_checks a.beyond (held_in a.head a.table.now) (held_in a.other_head a.other.now))
 said c =
-    c.check-cells.ensures ∙ left _ _ _ (room c.before.before.before.before) (other-room c.before.before) c.before.if3.false
+    c.check_cells-checked.ensures ∙ left _ _ _ (room c.before.before.before.before) (other-room c.before.before) c.if-beyond.false
 
-returns : tie.Need-returns
+returns : tie.Need-returns-then-table-s
 unfolding rest_checks short
 returns c =
-    let s = c.before.before.before.before.before in
+    let s = c in
     let h : length s.args.table.now < cells_of s.args.head = omega (arith, cells-for s.requires.0.0) in
-    judges-bad _ _ _ _ _ (ap Bad c.refusal-at.ensures) (simp (lt-ltb _ _ h))
+    judges-bad _ _ _ _ _ (ap Bad c.refusal_at.ensures) (simp (lt-ltb _ _ h))
 
-returns-2 : tie.Need-returns-2
+returns-2 : tie.Need-returns-then-other-s
 unfolding rest_checks short
 returns-2 c =
     let d = c.before.before.before in
-    let h : length (s d).args.other.now < cells_of (s d).args.other-head = omega (arith, cells-for (s d).requires.0.1) in
-    judges-bad _ _ _ _ _ (ap Bad c.refusal-at2.ensures) (simp (le-ltb _ _ (room d), lt-ltb _ _ h))
+    let h : length (s d).args.other.now < cells_of (s d).args.other_head = omega (arith, cells-for (s d).requires.0.1) in
+    judges-bad _ _ _ _ _ (ap Bad c.refusal_at-then-other-s.ensures) (simp (le-ltb _ _ (room d), lt-ltb _ _ h))
 
-returns-3 : tie.Need-returns-3
+returns-3 : tie.Need-returns-then-beyond
 unfolding rest_checks short
 returns-3 c =
     let e = c.before.before in
-    judges-bad _ _ _ _ _ (ap Bad c.refusal-at3.ensures) (simp (le-ltb _ _ (room e.before.before), le-ltb _ _ (other-room e), c.before.if3.true))
+    judges-bad _ _ _ _ _ (ap Bad c.refusal_at-then-beyond.ensures) (simp (le-ltb _ _ (room e.before.before), le-ltb _ _ (other-room e), c.if-beyond.true))
 
-pub check-rest-spec : {M : Type 1} → statement M
-check-rest-spec =
+pub check_rest_spec : {M : Type 1} → statement M
+check_rest_spec =
     tie.close
     (tie.spec
     (λ c κs. search rules)
@@ -74,9 +75,9 @@ check-rest-spec =
     returns-3
     (λ c κs. whole c)
     (λ c. search rules)
-    (λ c. let o = c.before.checked.given in judges-bad _ _ _ _ o.0.0 refl (ap said_by (sym o.1) ∙ said c.before.before.before))
+    (λ c. let o = c.in-Refused in judges-bad _ _ _ _ o.refusal refl (ap said_by (sym o.is) ∙ said c.before))
     (λ c. search rules)
     (λ c.
-    let d = c.before.before in
-    let k = (s d.before.before.before.before).pre.0.0 in
-    judges-good _ _ _ _ _ refl (k.is, k.sound) (ap said_by (sym c.enum_told.given.1) ∙ said d)))
+    let d = c.before in
+    let k = (s d.before.before.before.before).requires.0.0 in
+    judges-good _ _ _ _ _ refl (k.is, k.sound) (ap said_by (sym c.in_default.is) ∙ said d)))

@@ -13,34 +13,34 @@ use Rattle.joining.proofs.Parts.{part_at}
 use Rattle.joining.proofs.first_not_part.Statement.{statement}
 use Rattle.joining.proofs.first_not_part.Tie as tie
 
-module _ (c : tie.After-limits-of) where
+module _ (c : tie.After-limits_of-limits) where
   abbrev s : tie.Start
   s = c.before.before.before.before
 
   abbrev rest : Head
-  rest = less s.args.head s.args.other-head
+  rest = less s.args.head s.args.other_head
 
   few : is_over rest ≡ false
-  few = less-not-over s.args.head s.args.other-head s.pre.1.one.few
+  few = less-not-over s.args.head s.args.other_head s.requires.1.one.few
 
-  limits : Limits rest c.Limits-of.result
+  limits : Limits rest c.limits_of-limits.result
   limits =
-      subst (λ (head : Head). Limits head c.Limits-of.result) (capped_same rest few)
-      (subst (λ (head : Head). Limits (capped head) c.Limits-of.result) c.before.without.ensures c.Limits-of.ensures)
+      subst (λ (head : Head). Limits head c.limits_of-limits.result) (capped_same rest few)
+      (subst (λ (head : Head). Limits (capped head) c.limits_of-limits.result) c.without.ensures c.limits_of-limits.ensures)
 
   for : SettingsFor rest s.args.s
-  for = record { is = s.pre.0.is; sound = s.pre.0.sound }
+  for = record { is = s.requires.0.is; sound = s.requires.0.sound }
 
 returns : tie.Need-returns
 unfolding first_not_part
 returns c =
     let d = c.before.before in
-    c.first-apart.ensures
+    c.first_apart.ensures
     ∙ lowest-same _ _ _ (λ i l. part_at (for d) _ _ _ (limits d) i)
     ∙ ap (lowest (not_part (rest d) (s d).args.table.now (s d).args.other.now)) (cells-for (s d).requires.0)
 
-pub first-not-part-spec : {M : Type 1} → statement M
-first-not-part-spec =
+pub first_not_part_spec : {M : Type 1} → statement M
+first_not_part_spec =
     tie.close
     (tie.spec
     (λ c κs. search rules)

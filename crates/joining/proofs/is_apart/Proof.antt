@@ -15,9 +15,9 @@ module _ (limit cell other wrapped : ℕ) (l : limit ≤ greatest_limit) (u : ot
       let g : other ≤ cell = omega arith in
       rw (e, le-ltb cell other g)
 
-pub is-apart-spec : {M : Type 1} → statement M
-is-apart-spec =
+pub is_apart_spec : {M : Type 1} → statement M
+is_apart_spec =
     tie.close
     (tie.spec
     (λ c κs. search rules)
-    (λ c. let s = c.before in apart-is _ _ _ _ s.requires.0 s.requires.1 (omega arith) (omega arith) c.wrapping-sub-u32.ensures (dec_lt _ _)))
+    (λ c. let s = c in apart-is _ _ _ _ s.requires.0 s.requires.1 (omega arith) (omega arith) c.wrapping_sub_u32.ensures (dec_lt _ _)))

@@ -17,75 +17,76 @@ use Rattle.joining.proofs.join_tables.Statement.{statement}
 use Rattle.joining.proofs.join_tables.Tie as tie
 
 -- every cell is rewritten
+
 whole : (held other : Held) (s : Settings) → SettingsFor held.head s → s.cells ≤ length held.buffer → (now : List ℕ)
     → Span 0 0 s.cells (λ i x. x + get_or other.buffer i 0) held.buffer now → now ≡ joined held other
 unfolding joined
 whole held other s k l now w = span-is s.cells (cells_of held.head) w (omega (arith, cells-for k)) (omega (arith, cells-for k))
 
 -- 7 for either count or the sum
-beyond : (c : tie.After-is-over-with) → c.before.before.is-over.result || c.before.is-over2.result || c.is-over-with.result
-    ≡ any_over c.before.before.before.before.before.args.head c.before.before.before.before.before.args.other-head
-beyond c = ap₂ ◌||◌ (ap₂ ◌||◌ c.before.before.is-over.ensures c.before.is-over2.ensures) c.is-over-with.ensures
+beyond : (c : tie.After-is_over_with) → c.is_over.result || c.is_over-2.result || c.is_over_with.result
+    ≡ any_over c.args.head c.args.other_head
+beyond c = ap₂ ◌||◌ (ap₂ ◌||◌ c.is_over.ensures c.is_over-2.ensures) c.is_over_with.ensures
 
-module _ (c : tie.After-check-both) where
+module _ (c : tie.After-check_both-made) where
   abbrev s : tie.Start
-  s = c.before.before.before.before.before.before.before
+  s = c.before.before.before.before.before.before
 
   abbrev held : Held
   held = held_in s.args.head s.args.table.now
 
   abbrev other : Held
-  other = held_in s.args.other-head s.args.other.now
+  other = held_in s.args.other_head s.args.other.now
 
-  judged : Judges c.check_both.result (joining held other).checks s.args.head.height s.args.head.members
+  judged : Judges c.check_both-made.result (joining held other).checks s.args.head.height s.args.head.members
   unfolding joining
-  judged = subst (λ (b : Bool). Judges c.check_both.result (both_checks b held other) s.args.head.height s.args.head.members) (beyond c.before.before) c.check_both.ensures
+  judged = subst (λ (b : Bool). Judges c.check_both-made.result (both_checks b held other) s.args.head.height s.args.head.members) (beyond c.before) c.check_both-made.ensures
 
-module _ (c : tie.After-known-told2) where
-  abbrev d : tie.After-check-both
-  d = c.before.before.before
+module _ (c : tie.In-Good) where
+  abbrev d : tie.After-check_both-made
+  d = c.before
 
   abbrev made : Settings
-  made = c.before.made2.given.0.0
+  made = c.in-Good.s
 
   passed : none ≡ first (joining (held d) (other d)).checks
-  passed = judged-good (joining (held d) (other d)) (judged d) _ c.before.made2.given.1
+  passed = judged-good (joining (held d) (other d)) (judged d) _ c.in-Good.is
 
   for : SettingsFor (s d).args.head made
-  for = let g = (judged d).good _ c.before.made2.given.1 in record { is = g.0; sound = g.1 }
+  for = let g = (judged d).good _ c.in-Good.is in record { is = g.0; sound = g.1 }
 
   ready : PairInOrder (held d) (other d) made
   unfolding joining
   ready = both-passed _ (held d) (other d) for (λ e. (or-false _ _ e).0) passed
 
-  few : is_over (both (s d).args.head (s d).args.other-head) ≡ false
+  few : is_over (both (s d).args.head (s d).args.other_head) ≡ false
   unfolding joining
-  few = (or-false (either_over (s d).args.head (s d).args.other-head) (is_over (both (s d).args.head (s d).args.other-head)) (seven-passed _ (held d) (other d) passed)).1
+  few = (or-false (either_over (s d).args.head (s d).args.other_head) (is_over (both (s d).args.head (s d).args.other_head)) (seven-passed _ (held d) (other d) passed)).1
 
-returns : tie.Need-returns
+returns : tie.Need-returns-in-Bad
 unfolding joining
-returns c = let d = c.before.before.before in judged-bad (joining (held d) (other d)) (judged d) _ c.before.made.given.1
+returns c = let d = c.before in judged-bad (joining (held d) (other d)) (judged d) _ c.in-Bad.is
 
-returns-2 : tie.Need-returns-2
+returns-2 : tie.Need-returns-in-Good
 unfolding joining
 returns-2 c =
     let t = c.before.before.before.before.before in
-    let e : c.joined-with.result ≡ both (s (d t)).args.head (s (d t)).args.other-head = c.joined-with.ensures ∙ rw (few t) in
-    works (joining (held (d t)) (other (d t))) _ _ (passed t) e (whole (held (d t)) (other (d t)) _ (for t) (ready t).one.room _ c.before.before.before.join_cells.ensures)
+    let e : c.joined_with.result ≡ both (s (d t)).args.head (s (d t)).args.other_head = c.joined_with.ensures ∙ rw (few t) in
+    works (joining (held (d t)) (other (d t))) _ _ (passed t) e (whole (held (d t)) (other (d t)) _ (for t) (ready t).one.room _ c.join_cells.ensures)
 
-join-cells-requires : tie.Need-join-cells-requires
+join-cells-requires : tie.Need-join_cells-requires
 join-cells-requires c κs =
     let p = ready c.before in
     ((p.one.room, p.two.room), λ i l. omega (arith, p.one.small.are i l, p.two.small.are i l))
 
-pub join-tables-spec : {M : Type 1} → statement M
-join-tables-spec =
+pub join_tables_spec : {M : Type 1} → statement M
+join_tables_spec =
     tie.close
     (tie.spec
     (λ c κs. search rules)
     (λ c κs. search rules)
     (λ c κs. search rules)
-    (λ c κs. λ e. (or-false _ _ (sym (beyond c.before) ∙ e)).0)
+    (λ c κs. λ e. (or-false _ _ (sym (beyond c) ∙ e)).0)
     (λ c. search rules)
     (λ c. search rules)
     join-cells-requires

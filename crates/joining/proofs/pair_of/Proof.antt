@@ -24,41 +24,41 @@ module _ (head other : Head) where
   differ-not e q = simp (eq-eqb head.height other.height e, eq-eqb head.members other.members q)
 
 -- past 1 and 2 of both, what is left of the checks
-left : (c : tie.After-enum-told) → let s = c.before.before.before.before.before.before.before in first (differ s.args.head s.args.other ∷ []) ≡ first (pair_checks s.args.head s.args.other)
+left : (c : tie.In-Good-second) → let s = c in first (differ s.args.head s.args.other ∷ []) ≡ first (pair_checks s.args.head s.args.other)
 unfolding pair_checks
 left c =
-    let n = c.before.before.before.before.before.before in
-    passed c.before.before.new2.ensures _ _ c.enum_told.given.1 ∙ passed n.new.ensures _ _ c.before.before.before.before.made2.given.1
+    let n = c in
+    passed c.new-second.ensures _ _ c.in-Good-second.is ∙ passed n.new-made.ensures _ _ c.in-Good.is
 
-returns : tie.Need-returns
-returns c = judges-bad _ _ _ _ _ (ap Bad c.refusal-at.ensures) (differ-height _ _ c.before.if1.true ∙ left c.before.before.before.before)
+returns : tie.Need-returns-then-head-other
+returns c = judges-bad _ _ _ _ _ (ap Bad c.refusal_at.ensures) (differ-height _ _ c.if-head-other.true ∙ left c.before.before.before.before)
 
-returns-2 : tie.Need-returns-2
+returns-2 : tie.Need-returns-then-head-other-2
 returns-2 c =
-    judges-bad _ _ _ _ _ (ap Bad c.refusal-at2.ensures)
-    (differ-members _ _ c.before.before.before.before.if1.false c.before.if2.true ∙ left c.before.before.before.before.before.before.before)
+    judges-bad _ _ _ _ _ (ap Bad c.refusal_at-then-head-other-2.ensures)
+    (differ-members _ _ c.if-head-other.false c.if-head-other-2.true ∙ left c.before.before.before.before.before.before.before)
 
-returns-3 : tie.Need-returns-3
+returns-3 : tie.Need-returns-in-Bad
 unfolding pair_checks
-returns-3 c = let m = c.before.made.given in judges-bad _ _ _ _ _ refl (stopped c.before.before.before.new.ensures _ m.0.0 m.1)
+returns-3 c = let m = c.in-Bad in judges-bad _ _ _ _ _ refl (stopped c.new-made.ensures _ m.refusal m.is)
 
-returns-4 : tie.Need-returns-4
+returns-4 : tie.Need-returns-in-Bad-second
 unfolding pair_checks
 returns-4 c =
-    let m = c.before.second.given in
-    let n = c.before.before.before.before.before.before.before in
+    let m = c.in-Bad-second in
+    let n = c in
     judges-bad _ _ _ _ _ refl
-    (stopped c.before.before.before.new2.ensures _ m.0.0 m.1 ∙ passed n.new.ensures _ _ c.before.before.before.before.before.made2.given.1)
+    (stopped c.new-second.ensures _ m.refusal m.is ∙ passed n.new-made.ensures _ _ c.in-Good.is)
 
-returns-5 : tie.Need-returns-5
+returns-5 : tie.Need-returns-else-head-other-2
 returns-5 c =
     let t = c.before.before.before.before.before.before in
-    let n = t.before.before.before.before.before.before in
-    judges-good _ _ _ _ _ refl (n.new.ensures.good _ t.before.before.before.before.made2.given.1)
-    (differ-not _ _ c.before.before.before.if1.false c.if2.false ∙ left t)
+    let n = t in
+    judges-good _ _ _ _ _ refl (n.new-made.ensures.good _ t.in-Good.is)
+    (differ-not _ _ c.if-head-other.false c.if-head-other-2.false ∙ left t)
 
-pub pair-of-spec : {M : Type 1} → statement M
-pair-of-spec =
+pub pair_of_spec : {M : Type 1} → statement M
+pair_of_spec =
     tie.close
     (tie.spec
     (λ c κs. search rules)

@@ -5,14 +5,14 @@ use Rattle.lists.proofs.Spans.{span_none, span_set, span-end, span-unread}
 use Rattle.joining.proofs.take_cells.Statement.{statement}
 use Rattle.joining.proofs.take_cells.Tie as tie
 
-abbrev invariant-loop : tie.invariant-loop
+abbrev invariant-loop : tie.invariant-loop-i
 invariant-loop table₀ other cells i₀ table i = (i ≤ cells) × Span 0 0 i (λ k x. x - get_or other k 0) table₀ table
 
-abbrev decreases-loop : tie.decreases-loop
+abbrev decreases-loop : tie.decreases-loop-i
 decreases-loop table₀ other cells i₀ table i = cells - i
 
-pub take-cells-spec : {M : Type 1} → statement M
-take-cells-spec =
+pub take_cells_spec : {M : Type 1} → statement M
+take_cells_spec =
     tie.close
     (tie.spec
     invariant-loop
@@ -23,13 +23,13 @@ take-cells-spec =
     (λ c. search rules)
     (λ c. search rules)
     (λ c.
-    let l = c.before.before.before.loop in
-    let s = c.before.before.before.before in
+    let l = c.loop-i in
+    let s = c in
     omega (arith, span-unread l.invariant.1 l.i (omega arith), s.requires.1 l.i (omega arith)))
     (λ c. search rules)
     (λ c. search rules)
     (λ c. search rules)
     (λ c. search rules)
-    (λ c. (omega arith, span_set c.before.before.before.loop.invariant.1 _ _ (omega arith) (omega arith) refl))
+    (λ c. (omega arith, span_set c.loop-i.invariant.1 _ _ (omega arith) (omega arith) refl))
     (λ c. omega arith)
-    (λ c. span-end _ c.before.loop.invariant.1 (omega arith) (omega arith)))
+    (λ c. span-end _ c.loop-i.invariant.1 (omega arith) (omega arith)))

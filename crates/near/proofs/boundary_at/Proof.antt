@@ -6,12 +6,12 @@ use lib.ListN.{get_or-eq_default}
 use Rattle.near.proofs.boundary_at.Statement.{statement}
 use Rattle.near.proofs.boundary_at.Tie as tie
 
-pub boundary-at-spec : {M : Type 1} → statement M
-boundary-at-spec =
+pub boundary_at_spec : {M : Type 1} → statement M
+boundary_at_spec =
     tie.close
     (tie.spec
     (λ c. search rules)
     (λ c. search rules)
-    (λ c. omega (arith, c.shared-slice-known.given c.before.before.args.k))
-    (λ c. (refl, omega (arith, c.shared-slice-known.given c.before.before.args.k)))
-    (λ c. let a = c.before.args in (sym (get_or-eq_default a.column.now 0 {n = a.k} (omega arith)), omega arith)))
+    (λ c. omega (arith, c.shared_slice_known-1.given c.args.k))
+    (λ c. (refl, omega (arith, c.shared_slice_known-1.given c.args.k)))
+    (λ c. let a = c.args in (sym (get_or-eq_default a.column.now 0 {n = a.k} (omega arith)), omega arith)))

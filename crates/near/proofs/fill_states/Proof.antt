@@ -12,46 +12,46 @@ use Rattle.near.proofs.Carried.{carried_none, carried-more}
 use Rattle.near.proofs.fill_states.Statement.{statement}
 use Rattle.near.proofs.fill_states.Tie as tie
 
-abbrev invariant-loop : tie.invariant-loop
+abbrev invariant-loop : tie.invariant-loop-i
 invariant-loop states₀ column k width from end passed₀ i₀ states passed i =
     (i ≤ end) × (end ≤ length states) × (passed ≡ carried column k i) × Span 0 0 i (λ j x. state_at column k j) states₀ states
 
-abbrev decreases-loop : tie.decreases-loop
+abbrev decreases-loop : tie.decreases-loop-i
 decreases-loop states₀ column k width from end passed₀ i₀ states passed i = end - i
 
-loop-again : tie.Need-loop-preserved invariant-loop decreases-loop
+loop-again : tie.Need-loop-i-preserved invariant-loop decreases-loop
 unfolding state_at
 loop-again c =
-    let l = c.before.before.loop in
-    let a = c.before.before.before.before.before.before.before.args in
-    let b = c.before.before.before.before.boundary-at in
-    let p : c.passed-at.result ≡ carried a.column.now a.k (suc l.i) =
-    c.passed-at.ensures
+    let l = c.loop-i in
+    let a = c.args in
+    let b = c.boundary_at-from in
+    let p : c.passed_at-passed.result ≡ carried a.column.now a.k (suc l.i) =
+    c.passed_at-passed.ensures
     ∙ ap (λ (q : ℕ). stepped a.column.now q (b.result + l.i)) l.invariant.2
     ∙ ap (λ (v : ℕ). stepped a.column.now (carried a.column.now a.k l.i) (v + l.i)) b.ensures.0
     ∙ carried-more a.column.now a.k l.i in
-    let s = span_set l.invariant.3 l.i (c.passed-at.result % 2) (omega arith) (omega (arith, l.invariant.1)) (ap (λ (q : ℕ). q % 2) p) in
+    let s = span_set l.invariant.3 l.i (c.passed_at-passed.result % 2) (omega arith) (omega (arith, l.invariant.1)) (ap (λ (q : ℕ). q % 2) p) in
     (omega arith, omega (arith, l.invariant.1, l.invariant.3.long, s.long), p ∙ ap (carried a.column.now a.k) (omega arith), s)
 
 returns : tie.Need-returns invariant-loop decreases-loop
-returns c = let l = c.before.loop in span-end _ l.invariant.3 (omega (arith, c.before.before.sooner.ensures)) (omega (arith, c.before.before.sooner.ensures))
+returns c = let l = c.loop-i in span-end _ l.invariant.3 (omega (arith, c.sooner-end.ensures)) (omega (arith, c.sooner-end.ensures))
 
-pub fill-states-spec : {M : Type 1} → statement M
-fill-states-spec =
+pub fill_states_spec : {M : Type 1} → statement M
+fill_states_spec =
     tie.close
     (tie.spec
     invariant-loop
     decreases-loop
     (λ c κs. search rules)
     (λ c κs. search rules)
-    (λ c. (omega arith, omega (arith, c.sooner.ensures), carried_none _ _, span_none 0 _ _))
-    (λ c. omega (arith, c.before.before.before.boundary-at.ensures.1, c.before.loop.invariant.1))
+    (λ c. (omega arith, omega (arith, c.sooner-end.ensures), carried_none _ _, span_none 0 _ _))
+    (λ c. omega (arith, c.boundary_at-from.ensures.1, c.loop-i.invariant.1))
     (λ c κs. search rules)
     (λ c. omega arith)
     (λ c. search rules)
-    (λ c. omega (arith, c.before.before.loop.invariant.1))
+    (λ c. omega (arith, c.loop-i.invariant.1))
     (λ c. search rules)
     (λ c. omega arith)
     loop-again
-    (λ c. c.before.loop.invariant.3.long)
+    (λ c. c.loop-i.invariant.3.long)
     returns)

@@ -6,14 +6,14 @@ use Rattle.near.proofs.Carried.{stepped-on, stepped_by, stepped-end}
 use Rattle.near.proofs.passed_at.Statement.{statement}
 use Rattle.near.proofs.passed_at.Tie as tie
 
-pub passed-at-spec : {M : Type 1} → statement M
-passed-at-spec =
+pub passed_at_spec : {M : Type 1} → statement M
+passed_at_spec =
     tie.close
     (tie.spec
     (λ c. search rules)
     (λ c. search rules)
-    (λ c. omega (arith, c.shared-slice-known.given c.before.before.args.passed))
+    (λ c. omega (arith, c.shared_slice_known-1.given c.args.passed))
     (λ c. search rules)
-    (λ c. let a = c.before.before.before.args in omega (arith, stepped-on a.column.now a.passed a.voxel c.before.before.if1.true c.if2.true))
-    (λ c. sym (stepped_by _ _ _ c.before.before.if1.true c.if2.false))
+    (λ c. let a = c.args in omega (arith, stepped-on a.column.now a.passed a.voxel c.if-passed-column.true c.if-column-passed.true))
+    (λ c. sym (stepped_by _ _ _ c.if-passed-column.true c.if-column-passed.false))
     (λ c. sym (stepped-end _ _ _ (omega arith))))

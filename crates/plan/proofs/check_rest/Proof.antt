@@ -13,38 +13,38 @@ use Rattle.plan.proofs.check_rest.Tie as tie
 abbrev held : tie.Start → Held
 held s = held_in s.args.head s.args.table.now
 
-returns : tie.Need-returns
+returns : tie.Need-returns-then-table-s
 returns c =
     let s = c.before.before.before.before in
-    judges-bad _ _ _ _ _ (ap Bad c.refusal-at.ensures) (short-table (held s) _ _ _ (omega (arith, cells-for s.requires)))
+    judges-bad _ _ _ _ _ (ap Bad c.refusal_at.ensures) (short-table (held s) _ _ _ (omega (arith, cells-for s.requires)))
 
-returns-2 : tie.Need-returns-2
+returns-2 : tie.Need-returns-then-errors-s
 returns-2 c =
     let s = c.before.before.before.before.before.before in
-    judges-bad _ _ _ _ _ (ap Bad c.refusal-at2.ensures)
+    judges-bad _ _ _ _ _ (ap Bad c.refusal_at-then-errors-s.ensures)
     (short-errors (held s) _ _ _ (omega (arith, cells-for s.requires)) (omega (arith, entries-for s.requires)))
 
-returns-3 : tie.Need-returns-3
+returns-3 : tie.Need-returns-then-thicknesses-s
 returns-3 c =
     let s = c.before.before.before.before.before.before.before.before in
     let e = entries-for s.requires in
-    judges-bad _ _ _ _ _ (ap Bad c.refusal-at3.ensures) (short-thicknesses (held s) _ _ _ (omega (arith, cells-for s.requires)) (omega arith) (omega arith))
+    judges-bad _ _ _ _ _ (ap Bad c.refusal_at-then-thicknesses-s.ensures) (short-thicknesses (held s) _ _ _ (omega (arith, cells-for s.requires)) (omega arith) (omega arith))
 
-returns-4 : tie.Need-returns-4
+returns-4 : tie.Need-returns-then-list-s
 returns-4 c =
     let s = c.before.before.before.before.before.before.before.before.before.before in
     let e = entries-for s.requires in
-    judges-bad _ _ _ _ _ (ap Bad c.refusal-at4.ensures)
+    judges-bad _ _ _ _ _ (ap Bad c.refusal_at-then-list-s.ensures)
     (short-list (held s) _ _ _ (omega (arith, cells-for s.requires)) (omega arith) (omega arith) (omega (arith, counts-for s.requires)))
 
-returns-5 : tie.Need-returns-5
+returns-5 : tie.Need-returns
 returns-5 c =
     let s = c.before.before.before.before.before.before.before.before.before.before in
     let e = entries-for s.requires in
-    table-judged (held s) _ _ _ (omega (arith, cells-for s.requires)) (omega arith) (omega arith) (omega (arith, counts-for s.requires)) s.requires _ c.check-table.ensures
+    table-judged (held s) _ _ _ (omega (arith, cells-for s.requires)) (omega arith) (omega arith) (omega (arith, counts-for s.requires)) s.requires _ c.check_table.ensures
 
-pub check-rest-spec : {M : Type 1} → statement M
-check-rest-spec =
+pub check_rest_spec : {M : Type 1} → statement M
+check_rest_spec =
     tie.close
     (tie.spec
     (λ c κs. search rules)

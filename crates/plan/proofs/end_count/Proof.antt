@@ -16,19 +16,19 @@ module _ (s : Settings) (k : Sound s) where
   past : (z m : ℕ) → z / s.tmin + 2 ≤ m → z < (m - 1) * s.tmin
   past z m l = (div-lt_iff_lt-mul k.thin).0 (omega arith)
 
-pub end-count-spec : {M : Type 1} → statement M
-end-count-spec =
+pub end_count_spec : {M : Type 1} → statement M
+end_count_spec =
     tie.close
     (tie.spec
-    (λ c. let s = c.before.before in (omega arith, some s.args.s s.requires.0, λ m l u. omega arith))
-    (λ c κs. let s = c.before.before.before in (s.requires.0, (omega (arith, s.requires.1), s.requires.0.thin, s.requires.0.order)))
+    (λ c. let s = c in (omega arith, some s.args.s s.requires.0, λ m l u. omega arith))
+    (λ c κs. let s = c in (s.requires.0, (omega (arith, s.requires.1), s.requires.0.thin, s.requires.0.order)))
     (λ c.
-    let s = c.before.before.before.before in
-    omega (arith, c.layers-in.ensures, div-le_self (s.args.start - s.args.s.tmax) s.args.s.tmin, s.requires.0.rows_are, s.requires.0.high, s.requires.0.thick, s.requires.1))
-    (λ c. let s = c.before.before.before.before.before.before in (some s.args.s s.requires.0, omega arith, λ m l u. absurd (omega arith)))
+    let s = c in
+    omega (arith, c.layers_in-end.ensures, div-le_self (s.args.start - s.args.s.tmax) s.args.s.tmin, s.requires.0.rows_are, s.requires.0.high, s.requires.0.thick, s.requires.1))
+    (λ c. let s = c in (some s.args.s s.requires.0, omega arith, λ m l u. absurd (omega arith)))
     (λ c.
-    let s = c.before.before.before.before.before.before in (
+    let s = c in (
       omega arith,
       omega arith,
-      λ m l u. omega (arith, past s.args.s s.requires.0 (s.args.start - s.args.s.tmax) m (omega (arith, c.before.before.layers-in.ensures))),
+      λ m l u. omega (arith, past s.args.s s.requires.0 (s.args.start - s.args.s.tmax) m (omega (arith, c.layers_in-end.ensures))),
     )))

@@ -10,11 +10,11 @@ use Rattle.plan.proofs.entry_of.Tie as tie
 inside : (s : tie.Start) → entry_index s.args.s.counts s.args.q s.args.m < s.args.s.entries
 inside s = row_in s.args.s s.requires.0 s.args.q s.args.m s.requires.1.0 s.requires.1.1
 
-pub entry-of-spec : {M : Type 1} → statement M
-entry-of-spec =
+pub entry_of_spec : {M : Type 1} → statement M
+entry_of_spec =
     tie.close
     (tie.spec
-    (λ c. omega (arith, c.before.requires.0.few-counts))
-    (λ c. omega (arith, inside c.before, c.before.requires.0.few-entries))
-    (λ c. omega (arith, inside c.before, c.before.requires.0.few-entries))
+    (λ c. omega (arith, c.requires.0.few-counts))
+    (λ c. omega (arith, inside c.before, c.requires.0.few-entries))
+    (λ c. omega (arith, inside c.before, c.requires.0.few-entries))
     (λ c. (refl, inside c.before)))

@@ -8,42 +8,42 @@ use Rattle.plan.proofs.Rows.{row-high, row-begun, row-thin, row-self, row-again,
 use Rattle.plan.proofs.fill_row.Statement.{statement}
 use Rattle.plan.proofs.fill_row.Tie as tie
 
-abbrev invariant-loop : tie.invariant-loop
+abbrev invariant-loop : tie.invariant-loop-t
 invariant-loop table s bound q first errors₀ thicknesses₀ t₀ errors thicknesses t =
     (t ≤ s.tmax) × RowTo s (table_rules s bound table) q t (s.counts + 1) errors₀ thicknesses₀ errors thicknesses
 
-abbrev decreases-loop : tie.decreases-loop
+abbrev decreases-loop : tie.decreases-loop-t
 decreases-loop table s bound q first errors₀ thicknesses₀ t₀ errors thicknesses t = s.tmax - t
 
 -- past the clearing
-module _ (r : tie.After-clear-errors invariant-loop decreases-loop) where
+module _ (r : tie.After-clear_errors invariant-loop decreases-loop) where
   abbrev s : tie.Start invariant-loop decreases-loop
   s = r.before.before.before.before.before
 
-  begun : RowTo s.args.s (table_rules s.args.s s.args.bound s.args.table.now) s.args.q 0 (s.args.s.counts + 1) s.args.errors.now s.args.thicknesses.now r.clear-errors.last.1.1.0 s.args.thicknesses.now
+  begun : RowTo s.args.s (table_rules s.args.s s.args.bound s.args.table.now) s.args.q 0 (s.args.s.counts + 1) s.args.errors.now s.args.thicknesses.now r.clear_errors.new.errors s.args.thicknesses.now
   begun =
-      row-begun s.args.s s.args.bound s.args.table.now s.pre.0
-      (row-high s.args.s s.args.bound s.args.table.now s.pre.0 s.args.q r.clear-errors.ensures s.pre.1.0.0) s.pre.1.1.1
+      row-begun s.args.s s.args.bound s.args.table.now s.requires.0
+      (row-high s.args.s s.args.bound s.args.table.now s.requires.0 s.args.q r.clear_errors.ensures s.requires.1.0.0) s.requires.1.1.1
 
 -- in the loop
-module _ (l : tie.At-loop invariant-loop decreases-loop) where
-  abbrev r : tie.After-clear-errors invariant-loop decreases-loop
+module _ (l : tie.At-loop-t invariant-loop decreases-loop) where
+  abbrev r : tie.After-clear_errors invariant-loop decreases-loop
   r = l.before.before.before.before
 
   abbrev o : tie.Start invariant-loop decreases-loop
   o = s r
 
   -- since the row was begun, and since before that
-  so_far : RowTo o.args.s (table_rules o.args.s o.args.bound o.args.table.now) o.args.q l.loop.t (o.args.s.counts + 1) o.args.errors.now o.args.thicknesses.now l.loop.errors l.loop.thicknesses
-  so_far = row-again o.args.s o.args.bound o.args.table.now o.pre.0 (begun r) l.loop.inv.1
+  so_far : RowTo o.args.s (table_rules o.args.s o.args.bound o.args.table.now) o.args.q l.loop-t.t (o.args.s.counts + 1) o.args.errors.now o.args.thicknesses.now l.loop-t.errors l.loop-t.thicknesses
+  so_far = row-again o.args.s o.args.bound o.args.table.now o.requires.0 (begun r) l.loop-t.invariant.1
 
-loop-holds : tie.Need-loop-init invariant-loop decreases-loop
+loop-holds : tie.Need-loop-t-init invariant-loop decreases-loop
 loop-holds c =
     let r = c.before.before.before in
     let k = (s r).requires.0.sound in
     (omega (arith, k.order), row-self (s r).args.s _ _ (s r).requires.0 (row-thin (s r).args.s _ _ (s r).requires.0 ((s r).args.s.tmin - 1) (omega (arith, k.thin)) (begun r)))
 
-step-row-requires : tie.Need-step-row-requires invariant-loop decreases-loop
+step-row-requires : tie.Need-step_row-requires invariant-loop decreases-loop
 step-row-requires c κs =
     let l = c.before.before.before.before in
     let a = (o l).args in (
@@ -52,29 +52,29 @@ step-row-requires c κs =
         under-row a.s a.bound a.table.now (o l).requires.0 (o l).requires.1.1.0 (so_far l),
         (
           ((o l).requires.1.0.0, omega arith, omega arith, (o l).requires.1.0.1),
-          row_as a.s _ _ (o l).requires.0 _ (row-self a.s _ _ (o l).requires.0 l.loop.invariant.1) (omega arith) (omega arith),
+          row_as a.s _ _ (o l).requires.0 _ (row-self a.s _ _ (o l).requires.0 l.loop-t.invariant.1) (omega arith) (omega arith),
         ),
       ),
     )
 
-loop-again : tie.Need-loop-preserved invariant-loop decreases-loop
+loop-again : tie.Need-loop-t-preserved invariant-loop decreases-loop
 loop-again c =
-    let k = c.before.before.before.before in
-    let l = k.before.before.before.before.before in
-    (omega arith, row-again (o l).args.s _ _ (o l).requires.0 l.loop.invariant.1 k.step_row.ensures)
+    let k = c in
+    let l = k.before.before.before.before.before.before.before.before.before in
+    (omega arith, row-again (o l).args.s _ _ (o l).requires.0 l.loop-t.invariant.1 k.step_row.ensures)
 
 returns : tie.Need-returns invariant-loop decreases-loop
 returns c =
     let l = c.before.before in
     row_as (o l).args.s _ _ (o l).requires.0 _ (so_far l) (omega arith) (omega arith)
 
-pub fill-row-spec : {M : Type 1} → statement M
-fill-row-spec =
+pub fill_row_spec : {M : Type 1} → statement M
+fill_row_spec =
     tie.close
     (tie.spec
     invariant-loop
     decreases-loop
-    (λ c κs. let s = c.before.before.before.before in (s.requires.0.sound, (s.requires.1.1.0.row, s.requires.1.1.0.errors-whole)))
+    (λ c κs. let s = c in (s.requires.0.sound, (s.requires.1.1.0.row, s.requires.1.1.0.errors-whole)))
     (λ c. let r = c.before.before.before in omega (arith, (s r).requires.0.sound.thin))
     loop-holds
     (λ c. omega arith)

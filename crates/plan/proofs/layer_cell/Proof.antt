@@ -6,12 +6,12 @@ use Rattle.table.proofs.Cells.{cell-read}
 use Rattle.plan.proofs.layer_cell.Statement.{statement}
 use Rattle.plan.proofs.layer_cell.Tie as tie
 
-pub layer-cell-spec : {M : Type 1} → statement M
-layer-cell-spec =
+pub layer_cell_spec : {M : Type 1} → statement M
+layer_cell_spec =
     tie.close
     (tie.spec
-    (λ c. omega (arith, c.before.before.requires.0.sound.thick))
-    (λ c. omega (arith, c.before.before.requires.0.sound.rows_are, c.before.before.requires.0.sound.high, c.before.before.requires.0.sound.thick))
-    (λ c. omega (arith, c.before.before.requires.0.sound.thick))
+    (λ c. omega (arith, c.requires.0.sound.thick))
+    (λ c. omega (arith, c.requires.0.sound.rows_are, c.requires.0.sound.high, c.requires.0.sound.thick))
+    (λ c. omega (arith, c.requires.0.sound.thick))
     (λ c κs. search rules)
-    (λ c. let s = c.before.before.before in c.cell-of.ensures ∙ cell-read _ _ _ _ _ _ s.requires.0.sound.greatest (omega (arith, s.requires.0.sound.thick))))
+    (λ c. let s = c in c.cell_of.ensures ∙ cell-read _ _ _ _ _ _ s.requires.0.sound.greatest (omega (arith, s.requires.0.sound.thick))))

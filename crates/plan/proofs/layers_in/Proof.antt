@@ -5,8 +5,8 @@ use borrow.Author.Rules.{rules}
 use Rattle.plan.proofs.layers_in.Statement.{statement}
 use Rattle.plan.proofs.layers_in.Tie as tie
 
-pub layers-in-spec : {M : Type 1} → statement M
-layers-in-spec =
+pub layers_in_spec : {M : Type 1} → statement M
+layers_in_spec =
     tie.close
     (tie.spec
     (λ c. omega (arith, c.requires.1.0, c.requires.0.rows_are, c.requires.0.high, c.requires.0.thick))

@@ -26,25 +26,25 @@ module _ (s : Settings) (bound : ℕ) (table : List ℕ) (q t : ℕ) where
   within x e i = rw (e, i)
 
 -- what was asked is the shape
-module _ (c : tie.After-is-layer) where
+module _ (c : tie.After-is_layer) where
   abbrev s : tie.Start
   s = c.before.before.before.before
 
-  asked : (answer : Bool) → c.is-layer.result ≡ answer → shape s.args.s.height s.args.s.members (at_row s.args.s.tmax (s.args.q - s.args.t)) s.args.t ≡ answer
+  asked : (answer : Bool) → c.is_layer.result ≡ answer → shape s.args.s.height s.args.s.members (at_row s.args.s.tmax (s.args.q - s.args.t)) s.args.t ≡ answer
   asked answer e =
       let a = s.args in
-      let h : at_row a.s.tmax (a.q - a.t) ≡ at_row a.s.tmax a.q - a.t = omega (arith, s.pre.1, s.pre.0.sound.thick) in
-      ap (λ (g : ℕ). shape a.s.height a.s.members g a.t) h ∙ sym c.is-layer.ensures ∙ e
+      let h : at_row a.s.tmax (a.q - a.t) ≡ at_row a.s.tmax a.q - a.t = omega (arith, s.requires.1, s.requires.0.sound.thick) in
+      ap (λ (g : ℕ). shape a.s.height a.s.members g a.t) h ∙ sym c.is_layer.ensures ∙ e
 
-pub may-use-spec : {M : Type 1} → statement M
-may-use-spec =
+pub may_use_spec : {M : Type 1} → statement M
+may_use_spec =
     tie.close
     (tie.spec
     (λ c. search rules)
     (λ c. search rules)
     (λ c. search rules)
     (λ c κs. search rules)
-    (λ c. forbidden (s c.before).args.s _ _ _ _ (asked c.before false (not-true _ c.if1.true)))
-    (λ c. omega (arith, (s c.before).pre.1))
-    (λ c κs. let b = s c.before in (b.pre.0, (omega (arith, b.pre.1), b.pre.1.2, b.pre.1.3)))
-    (λ c. let e = c.before in within (s e.before).args.s _ _ _ _ _ (asked e.before true (not-false _ e.if1.false)) c.layer-cell.ensures))
+    (λ c. forbidden (s c.before).args.s _ _ _ _ (asked c.before false (c.if-not-is_layer.true)))
+    (λ c. omega (arith, (s c.before).requires.1))
+    (λ c κs. let b = s c.before in (b.requires.0, (omega (arith, b.requires.1), b.requires.1.2, b.requires.1.3)))
+    (λ c. let e = c.before in within (s e.before).args.s _ _ _ _ _ (asked e.before true (e.if-not-is_layer.false)) c.layer_cell.ensures))

@@ -34,9 +34,9 @@ module _ (held : Held) (bound : ℕ) (lent : Sheets) where
       works (planning held bound lent) s.counts left e (counts-for k)
       (subst (λ (s : Settings). left ≡ planned s.height s.members bound held.buffer lent) k.is w)
 
-module _ (c : tie.After-known-told2) where
+module _ (c : tie.In-Good) where
   abbrev s : tie.Start
-  s = c.before.before.before.before.before.before.before.before
+  s = c.before.before.before.before.before.before
 
   abbrev held : Held
   held = held_in s.args.head s.args.table.now
@@ -45,34 +45,34 @@ module _ (c : tie.After-known-told2) where
   lent = sheets_of s.args.errors.now s.args.thicknesses.now s.args.list.now
 
   abbrev made : Settings
-  made = c.before.made2.given.0.0
+  made = c.in-Good.s
 
   for : SettingsFor s.args.head made
-  for = let g = c.before.before.before.check-plan.ensures.good _ c.before.made2.given.1 in record { is = g.0; sound = g.1 }
+  for = let g = c.check_plan-made.ensures.good _ c.in-Good.is in record { is = g.0; sound = g.1 }
 
   passed : none ≡ first (plan_checks held (length lent.errors) (length lent.thicknesses) (length lent.leasts))
-  passed = ap said_made (sym c.before.made2.given.1) ∙ c.before.before.before.check-plan.ensures.says
+  passed = ap said_made (sym c.in-Good.is) ∙ c.check_plan-made.ensures.says
 
-returns : tie.Need-returns
+returns : tie.Need-returns-in-Bad
 returns c =
-    let k = c.before.before.before in
-    bad _ _ _ k.check-plan.ensures c.before.made.given.0.0 c.before.made.given.1
+    let k = c in
+    bad _ _ _ k.check_plan-made.ensures c.in-Bad.refusal c.in-Bad.is
 
-plan-sheets-requires : tie.Need-plan-sheets-requires
+plan-sheets-requires : tie.Need-plan_sheets-requires
 plan-sheets-requires c κs =
     let k = c.before.before.before in
     let p = plan-passed (held k) _ _ _ (for k) (passed k) in
     (p.ready, (p.errors-whole, p.thicknesses-whole, p.leasts-whole))
 
-returns-2 : tie.Need-returns-2
+returns-2 : tie.Need-returns-in-Good
 returns-2 c =
-    let p = c.before.before.before.before.before.before in
-    let k = p.before.before.before.before in
-    let w = p.plan-sheets.ensures in
+    let p = c in
+    let k = p.before.before.before.before.before.before.before.before.before.before in
+    let w = p.plan_sheets.ensures in
     good (held k) _ (lent k) (made k) (for k) (passed k) _ (λ i. sheets_of (w.0 i) (w.1.0 i) (w.1.1 i))
 
-pub plan-spec : {M : Type 1} → statement M
-plan-spec =
+pub plan_spec : {M : Type 1} → statement M
+plan_spec =
     tie.close
     (tie.spec
     (λ c κs. search rules)

@@ -4,14 +4,14 @@ use Rattle.plan.proofs.Listing.{planned-is}
 use Rattle.plan.proofs.plan_sheets.Statement.{statement}
 use Rattle.plan.proofs.plan_sheets.Tie as tie
 
-fill-list-requires : tie.Need-fill-list-requires
+fill-list-requires : tie.Need-fill_list-requires
 fill-list-requires c κs =
-    let f = c.before.before.before.before.before.before in
-    let s = f.before.before.before.before.before.before.before in
-    (s.requires.0, (planned-is s.args.s _ _ s.requires.0 _ _ s.requires.1.0 f.fill-sheets.ensures.0, s.requires.1.2))
+    let f = c in
+    let s = f in
+    (s.requires.0, (planned-is s.args.s _ _ s.requires.0 _ _ s.requires.1.0 f.fill_sheets.ensures.0, s.requires.1.2))
 
-pub plan-sheets-spec : {M : Type 1} → statement M
-plan-sheets-spec =
+pub plan_sheets_spec : {M : Type 1} → statement M
+plan_sheets_spec =
     tie.close
     (tie.spec
     (λ c κs. search rules)

@@ -14,15 +14,15 @@ module _ (s : tie.Start) where
       omega (arith, m, s.requires.1, k.rows_are, k.high, k.thick)
 
   more : (s.args.first + 1) * s.args.s.tmax < 4294967296
-  more = let k = s.pre.0 in omega (arith, add-mul s.args.first 1 s.args.s.tmax, s.pre.1, k.rows_are, k.high, k.thick)
+  more = let k = s.requires.0 in omega (arith, add-mul s.args.first 1 s.args.s.tmax, s.requires.1, k.rows_are, k.high, k.thick)
 
-pub raised-spec : {M : Type 1} → statement M
-raised-spec =
+pub raised_spec : {M : Type 1} → statement M
+raised_spec =
     tie.close
     (tie.spec
     (λ c. omega (arith, few c))
     (λ c. omega (arith, more c.before))
-    (λ c. c.before.before.requires.1.0)
+    (λ c. c.requires.1.0)
     (λ c. omega (arith, few c.before.before.before))
-    (λ c. c.if1.true)
-    (λ c. c.before.before.before.requires.1.2))
+    (λ c. c.if-first-s.true)
+    (λ c. c.requires.1.2))

@@ -6,8 +6,9 @@ use Rattle.plan.proofs.start_row.Statement.{statement}
 use Rattle.plan.proofs.start_row.Tie as tie
 
 -- past the clearing
-module _ (c : tie.After-entry-of) where
-  abbrev errors : tie.After-clear-errors
+
+module _ (c : tie.After-entry_of-at) where
+  abbrev errors : tie.After-clear_errors
   errors = c.before.before.before
 
   abbrev s : tie.Start
@@ -15,16 +16,16 @@ module _ (c : tie.After-entry-of) where
 
 returns : tie.Need-returns
 returns c =
-    row_low (s c).args.s _ _ (s c).requires.0 (s c).args.q (s c).requires.1.0 (errors c).clear-errors.ensures _ (omega (arith, c.entry_of.ensures.0))
-    (omega (arith, c.entry_of.ensures.1, (s c).requires.1.1, (errors c).clear-errors.ensures.long))
+    row_low (s c).args.s _ _ (s c).requires.0 (s c).args.q (s c).requires.1.0 (errors c).clear_errors.ensures _ (omega (arith, c.entry_of-at.ensures.0))
+    (omega (arith, c.entry_of-at.ensures.1, (s c).requires.1.1, (errors c).clear_errors.ensures.long))
 
-pub start-row-spec : {M : Type 1} → statement M
-start-row-spec =
+pub start_row_spec : {M : Type 1} → statement M
+start_row_spec =
     tie.close
     (tie.spec
-    (λ c κs. let s = c.before.before.before in let k = s.requires.0.sound in (k, (omega (arith, s.requires.1.0, k.rows_are, k.low), s.requires.1.1)))
-    (λ c κs. let s = c.before.before.before.before.before.before in let k = s.requires.0.sound in (k, (omega (arith, s.requires.1.0, k.rows_are, k.low), omega arith)))
-    (λ c. omega (arith, c.entry_of.ensures.1, (s c).requires.0.sound.few-entries))
-    (λ c. omega (arith, c.entry_of.ensures.1, (s c).requires.1.1, (errors c).clear-errors.ensures.long))
+    (λ c κs. let s = c in let k = s.requires.0.sound in (k, (omega (arith, s.requires.1.0, k.rows_are, k.low), s.requires.1.1)))
+    (λ c κs. let s = c in let k = s.requires.0.sound in (k, (omega (arith, s.requires.1.0, k.rows_are, k.low), omega arith)))
+    (λ c. omega (arith, c.entry_of-at.ensures.1, (s c).requires.0.sound.few-entries))
+    (λ c. omega (arith, c.entry_of-at.ensures.1, (s c).requires.1.1, (errors c).clear_errors.ensures.long))
     (λ c. search rules)
     returns)

@@ -11,30 +11,30 @@ use Rattle.plan.specs.Rows.{least_at}
 use Rattle.plan.proofs.start_rows.Statement.{statement}
 use Rattle.plan.proofs.start_rows.Tie as tie
 
-abbrev invariant-loop : tie.invariant-loop
+abbrev invariant-loop : tie.invariant-loop-q
 invariant-loop table s bound errors₀ q₀ errors q =
     (q ≤ s.tmax) × Span 0 0 (row_start s.counts q) (flat (s.counts + 1) (least_at s (table_rules s bound table))) errors₀ errors
 
-abbrev decreases-loop : tie.decreases-loop
+abbrev decreases-loop : tie.decreases-loop-q
 decreases-loop table s bound errors₀ q₀ errors q = s.tmax - q
 
-loop-again : tie.Need-loop-preserved invariant-loop decreases-loop
+loop-again : tie.Need-loop-q-preserved invariant-loop decreases-loop
 loop-again c =
-    let r = c.before.before in
-    let l = r.before.before.before.before in
-    let s = l.before.before.before in
-    (omega arith, span-row (least_at s.args.s _) l.loop.q l.loop.invariant.1 r.start-row.ensures)
+    let r = c in
+    let l = r in
+    let s = l in
+    (omega arith, span-row (least_at s.args.s _) l.loop-q.q l.loop-q.invariant.1 r.start_row.ensures)
 
-pub start-rows-spec : {M : Type 1} → statement M
-start-rows-spec =
+pub start_rows_spec : {M : Type 1} → statement M
+start_rows_spec =
     tie.close
     (tie.spec
     invariant-loop
     decreases-loop
-    (λ c. let s = c.before.before in (omega arith, span-end (row_start s.args.s.counts 0) (span_none 0 _ _) (omega arith) (omega arith)))
-    (λ c κs. let l = c.before.before.before in let s = l.before.before.before in (s.requires.0, (omega arith, omega (arith, s.requires.1, l.loop.invariant.1.long))))
-    (λ c. let s = c.before.before.before.before.before.before.before.before.before in omega (arith, s.requires.0.sound.thick))
+    (λ c. let s = c in (omega arith, span-end (row_start s.args.s.counts 0) (span_none 0 _ _) (omega arith) (omega arith)))
+    (λ c κs. let l = c in let s = l in (s.requires.0, (omega arith, omega (arith, s.requires.1, l.loop-q.invariant.1.long))))
+    (λ c. let s = c in omega (arith, s.requires.0.sound.thick))
     (λ c. omega arith)
     loop-again
-    (λ c. c.before.before.loop.invariant.1.long)
-    (λ c. span-end _ c.before.before.loop.invariant.1 (mul-le-mul_right _ (omega arith)) (mul-le-mul_right _ (omega arith))))
+    (λ c. c.loop-q.invariant.1.long)
+    (λ c. span-end _ c.loop-q.invariant.1 (mul-le-mul_right _ (omega arith)) (mul-le-mul_right _ (omega arith))))

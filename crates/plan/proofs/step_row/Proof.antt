@@ -10,24 +10,24 @@ use Rattle.plan.proofs.step_row.Tie as tie
 
 relax-requires : tie.Need-relax-requires
 relax-requires c κs =
-    let s = c.before.before.before.before.before.before.before in
-    let i = c.before.before in
+    let s = c in
+    let i = c in
     let n = s.requires.1.1.0 in
-    let u : Permitted s.args.s _ s.args.q s.args.t = record { thick = n.1; thin = n.2; above = omega (arith, n); permitted = sym i.before.may-use.ensures ∙ i.if1.true } in
+    let u : Permitted s.args.s _ s.args.q s.args.t = record { thick = n.1; thin = n.2; above = omega (arith, n); permitted = sym i.may_use.ensures ∙ i.if-may_use.true } in
     (s.requires.0, (s.requires.1.0, (u, (n.3, s.requires.1.1.1))))
 
-returns-2 : tie.Need-returns-2
+returns-2 : tie.Need-returns-else-may_use
 returns-2 c =
-    let s = c.before.before.before.before.before in
+    let s = c in
     let n = s.requires.1.1.0 in
     row_same s.args.s _ _ s.requires.0 s.requires.1.1.1
-    (λ m. kept _ _ s.args.t m n.1 (λ i e. via-forbidden s.args.s _ _ s.requires.0 i s.args.q s.args.t _ (omega (arith, n)) c.before.may-use.ensures c.if1.false))
+    (λ m. kept _ _ s.args.t m n.1 (λ i e. via-forbidden s.args.s _ _ s.requires.0 i s.args.q s.args.t _ (omega (arith, n)) c.may_use.ensures c.if-may_use.false))
 
-pub step-row-spec : {M : Type 1} → statement M
-step-row-spec =
+pub step_row_spec : {M : Type 1} → statement M
+step_row_spec =
     tie.close
     (tie.spec
-    (λ c κs. let s = c.before.before.before in let n = s.requires.1.1.0 in (s.requires.0, (n.0, s.requires.1.0.row, n.1, n.2)))
+    (λ c κs. let s = c in let n = s.requires.1.1.0 in (s.requires.0, (n.0, s.requires.1.0.row, n.1, n.2)))
     relax-requires
     (λ c. search rules)
     (λ c. search rules)

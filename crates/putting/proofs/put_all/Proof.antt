@@ -20,13 +20,13 @@ module _ {cell t : ℕ} {E F : List ℕ} where
   elsewhere : length E / 2 < length F → PutAll cell t E F E F
   elsewhere l = record { put = λ u. absurd (omega arith); not-put = λ u. (refl, refl) }
 
-pub put-all-spec : {M : Type 1} → statement M
-put-all-spec =
+pub put_all_spec : {M : Type 1} → statement M
+put_all_spec =
     tie.close
     (tie.spec
     (λ c. omega arith)
     (λ c κs. placed (omega arith))
     (λ c. search rules)
     (λ c. search rules)
-    (λ c. there (omega arith) c.before.before.before.before.put-many.ensures)
+    (λ c. there (omega arith) c.put_many.ensures)
     (λ c. elsewhere (omega arith)))

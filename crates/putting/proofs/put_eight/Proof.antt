@@ -5,7 +5,7 @@ use Rattle.putting.proofs.Putting.{put-more, placed-part, placed-rest}
 use Rattle.putting.proofs.put_eight.Statement.{statement}
 use Rattle.putting.proofs.put_eight.Tie as tie
 
-second-requires : tie.Need-put-four-requires-2
+second-requires : tie.Need-put_four-requires-2
 second-requires c κs =
     let r = c.before.before.before.before.before.before in
     let s = r.before.before.before.before.before in
@@ -15,11 +15,11 @@ returns : tie.Need-returns
 returns c =
     let r = c.before.before.before.before in
     let b = r.before.before.before.before.before.before.before in
-    let p = b.before.before.before.before.before.requires in
-    put-more 4 4 (omega arith) b.put_four.ensures r.put-four2.ensures (omega (arith, p.before, p.inside))
+    let p = b.requires in
+    put-more 4 4 (omega arith) b.put_four.ensures r.put_four-2.ensures (omega (arith, p.before, p.inside))
 
-pub put-eight-spec : {M : Type 1} → statement M
-put-eight-spec =
+pub put_eight_spec : {M : Type 1} → statement M
+put_eight_spec =
     tie.close
     (tie.spec
     (λ c κs. let s = c.before.before.before.before in placed-part 8 4 s.requires (omega arith))

@@ -5,7 +5,7 @@ use Rattle.putting.proofs.Putting.{put-more, placed-part, placed-rest}
 use Rattle.putting.proofs.put_four.Statement.{statement}
 use Rattle.putting.proofs.put_four.Tie as tie
 
-second-requires : tie.Need-put-two-requires-2
+second-requires : tie.Need-put_two-requires-2
 second-requires c κs =
     let r = c.before.before.before.before.before.before in
     let s = r.before.before.before.before.before in
@@ -15,11 +15,11 @@ returns : tie.Need-returns
 returns c =
     let r = c.before.before.before.before in
     let b = r.before.before.before.before.before.before.before in
-    let p = b.before.before.before.before.before.requires in
-    put-more 2 2 (omega arith) b.put_two.ensures r.put-two2.ensures (omega (arith, p.before, p.inside))
+    let p = b.requires in
+    put-more 2 2 (omega arith) b.put_two.ensures r.put_two-2.ensures (omega (arith, p.before, p.inside))
 
-pub put-four-spec : {M : Type 1} → statement M
-put-four-spec =
+pub put_four_spec : {M : Type 1} → statement M
+put_four_spec =
     tie.close
     (tie.spec
     (λ c κs. let s = c.before.before.before.before in placed-part 4 2 s.requires (omega arith))

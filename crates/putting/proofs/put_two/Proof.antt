@@ -5,7 +5,7 @@ use Rattle.putting.proofs.Putting.{put-more, placed-part, placed-rest}
 use Rattle.putting.proofs.put_two.Statement.{statement}
 use Rattle.putting.proofs.put_two.Tie as tie
 
-second-requires : tie.Need-put-on-requires-2
+second-requires : tie.Need-put_on-requires-2
 second-requires c κs =
     let r = c.before.before.before.before.before.before in
     let s = r.before.before.before.before.before in
@@ -15,11 +15,11 @@ returns : tie.Need-returns
 returns c =
     let r = c.before.before.before.before in
     let b = r.before.before.before.before.before.before.before in
-    let p = b.before.before.before.before.before.requires in
-    put-more 1 1 (omega arith) b.put_on.ensures r.put-on2.ensures (omega (arith, p.before, p.inside))
+    let p = b.requires in
+    put-more 1 1 (omega arith) b.put_on.ensures r.put_on-2.ensures (omega (arith, p.before, p.inside))
 
-pub put-two-spec : {M : Type 1} → statement M
-put-two-spec =
+pub put_two_spec : {M : Type 1} → statement M
+put_two_spec =
     tie.close
     (tie.spec
     (λ c κs. let s = c.before.before.before.before in placed-part 2 1 s.requires (omega arith))

@@ -16,5 +16,5 @@ within : (e cell : ℕ) → e ≤ missing - cell → e + cell ≡ sum_or_none e 
 unfolding sum_or_none
 within e cell l = simp (le-ltb (missing - cell) e l)
 
-pub sum-or-none-spec : {M : Type 1} → statement M
-sum-or-none-spec = tie.close (tie.spec (λ c. omega arith) (λ c. beyond _ _ c.if1.true) (λ c. omega arith) (λ c. within _ _ c.if1.false))
+pub sum_or_none_spec : {M : Type 1} → statement M
+sum_or_none_spec = tie.close (tie.spec (λ c. omega arith) (λ c. beyond _ _ c.if-cell-e.true) (λ c. omega arith) (λ c. within _ _ c.if-cell-e.false))

@@ -18,16 +18,16 @@ use Rattle.readback.proofs.Answers.{short-errors, short-thicknesses, no-layer, a
 use Rattle.readback.proofs.check_room.Statement.{statement}
 use Rattle.readback.proofs.check_room.Tie as tie
 
-returns : tie.Need-returns
-returns c = settings-bad c.before.before.new.ensures _ _ _ _ c.enum_told.given.0.0 c.enum_told.given.1
+returns : tie.Need-returns-in_default
+returns c = settings-bad c.new-made.ensures _ _ _ _ c.in_default.field-0 c.in_default.is
 
 -- past the settings
-module _ (m : tie.After-known-told) where
+module _ (m : tie.In-Good) where
   abbrev a : tie.Start
-  a = m.before.before.before.before
+  a = m.before.before
 
   abbrev s : Settings
-  s = m.before.made.given.0.0
+  s = m.in-Good.s
 
   abbrev sizes : List (Check Numbered)
   sizes = size_checks a.args.height a.args.members a.args.errors a.args.thicknesses a.args.n a.args.room
@@ -36,14 +36,14 @@ module _ (m : tie.After-known-told) where
   Judged made = Judges made (room_checks a.args.height a.args.members a.args.errors a.args.thicknesses a.args.n a.args.room) a.args.height a.args.members
 
   bad : (r r' : Refusal) → r ≡ r' → some (numbered r') ≡ first sizes → Judged (Bad r)
-  bad = size-bad m.before.before.before.new.ensures _ _ _ _ s m.before.made.given.1
+  bad = size-bad m.new-made.ensures _ _ _ _ s m.in-Good.is
 
   good : none ≡ first sizes → Judged (Good s)
-  good = size-good m.before.before.before.new.ensures _ _ _ _ s m.before.made.given.1
+  good = size-good m.new-made.ensures _ _ _ _ s m.in-Good.is
 
   -- the settings' sizes are document 01's
   is : s ≡ settings_of a.args.height a.args.members
-  is = (m.before.before.before.new.ensures.good s m.before.made.given.1).0
+  is = (m.new-made.ensures.good s m.in-Good.is).0
 
   size : s.entries ≡ entries a.args.height a.args.members
   size = ap (λ (s : Settings). s.entries) is
@@ -51,38 +51,38 @@ module _ (m : tie.After-known-told) where
   most : s.counts ≡ M a.args.height a.args.members
   most = ap (λ (s : Settings). s.counts) is
 
-returns-2 : tie.Need-returns-2
+returns-2 : tie.Need-returns-then-errors-s
 returns-2 c =
     let m = c.before.before.before in
-    bad m _ _ c.refusal-at.ensures (short-errors _ _ _ _ _ _ (omega (arith, size m)))
+    bad m _ _ c.refusal_at.ensures (short-errors _ _ _ _ _ _ (omega (arith, size m)))
 
-returns-3 : tie.Need-returns-3
+returns-3 : tie.Need-returns-then-thicknesses-s
 returns-3 c =
     let m = c.before.before.before.before.before in
-    bad m _ _ c.refusal-at2.ensures (short-thicknesses _ _ _ _ _ _ (omega (arith, size m)) (omega (arith, size m)))
+    bad m _ _ c.refusal_at-then-thicknesses-s.ensures (short-thicknesses _ _ _ _ _ _ (omega (arith, size m)) (omega (arith, size m)))
 
-returns-4 : tie.Need-returns-4
+returns-4 : tie.Need-returns-then-n-eq0
 returns-4 c =
     let m = c.before.before.before.before.before.before in
-    bad m _ _ c.refusal-at3.ensures (no-layer _ _ _ _ _ _ (omega (arith, size m)) (omega (arith, size m)) (omega arith))
+    bad m _ _ c.refusal_at-then-n-eq0.ensures (no-layer _ _ _ _ _ _ (omega (arith, size m)) (omega (arith, size m)) (omega arith))
 
-returns-5 : tie.Need-returns-5
+returns-5 : tie.Need-returns-then-s-n
 returns-5 c =
     let m = c.before.before.before.before.before.before.before.before in
-    bad m _ _ c.refusal-at4.ensures (above_most _ _ _ _ _ _ (omega (arith, size m)) (omega (arith, size m)) (λ z. omega arith) (omega (arith, most m)))
+    bad m _ _ c.refusal_at-then-s-n.ensures (above_most _ _ _ _ _ _ (omega (arith, size m)) (omega (arith, size m)) (λ z. omega arith) (omega (arith, most m)))
 
-returns-6 : tie.Need-returns-6
+returns-6 : tie.Need-returns-then-room-n
 returns-6 c =
     let m = c.before.before.before.before.before.before.before.before.before in
-    bad m _ _ c.refusal-at5.ensures (short-output _ _ _ _ _ _ (omega (arith, size m)) (omega (arith, size m)) (λ z. omega arith) (omega (arith, most m)) (omega arith))
+    bad m _ _ c.refusal_at-then-room-n.ensures (short-output _ _ _ _ _ _ (omega (arith, size m)) (omega (arith, size m)) (λ z. omega arith) (omega (arith, most m)) (omega arith))
 
-returns-7 : tie.Need-returns-7
+returns-7 : tie.Need-returns
 returns-7 c =
     let m = c.before.before.before.before.before.before.before.before in
     good m (all_pass _ _ _ _ _ _ (omega (arith, size m)) (omega (arith, size m)) (λ z. omega arith) (omega (arith, most m)) (omega arith))
 
-pub check-room-spec : {M : Type 1} → statement M
-check-room-spec =
+pub check_room_spec : {M : Type 1} → statement M
+check_room_spec =
     tie.close
     (tie.spec
     (λ c κs. search rules)

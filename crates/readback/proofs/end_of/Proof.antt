@@ -4,8 +4,8 @@ use borrow.Author.Rules.{rules}
 use Rattle.readback.proofs.end_of.Statement.{statement}
 use Rattle.readback.proofs.end_of.Tie as tie
 
-pub end-of-spec : {M : Type 1} → statement M
-end-of-spec =
+pub end_of_spec : {M : Type 1} → statement M
+end_of_spec =
     tie.close
     (tie.spec
     (λ c. omega arith)
@@ -13,4 +13,4 @@ end-of-spec =
     (λ c. omega arith)
     (λ c. omega arith)
     (λ c κs. search rules)
-    (λ c. c.least-end.ensures))
+    (λ c. c.least_end.ensures))

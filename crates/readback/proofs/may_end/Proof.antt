@@ -7,12 +7,12 @@ use Rattle.readback.proofs.Walks.{another, that-one}
 use Rattle.readback.proofs.may_end.Statement.{statement}
 use Rattle.readback.proofs.may_end.Tie as tie
 
-returns-2 : tie.Need-returns-2
+returns-2 : tie.Need-returns
 returns-2 c =
-    let s = c.before.before in
+    let s = c in
     let a = s.args in
     leb-same a.s.tmax a.row 33 (at_row a.s.tmax a.row) (λ l. omega arith) (λ l. omega (arith, s.requires.thick))
-    ∙ that-one a.k 1 _ c.before.if1.false
+    ∙ that-one a.k 1 _ c.if-k-ne1.false
 
-pub may-end-spec : {M : Type 1} → statement M
-may-end-spec = tie.close (tie.spec (λ c. another _ _ _ c.if1.true) returns-2)
+pub may_end_spec : {M : Type 1} → statement M
+may_end_spec = tie.close (tie.spec (λ c. another _ _ _ c.if-k-ne1.true) returns-2)

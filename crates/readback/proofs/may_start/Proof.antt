@@ -9,20 +9,20 @@ use Rattle.readback.proofs.Walks.{another, that-one}
 use Rattle.readback.proofs.may_start.Statement.{statement}
 use Rattle.readback.proofs.may_start.Tie as tie
 
-returns-2 : tie.Need-returns-2
+returns-2 : tie.Need-returns
 returns-2 c =
-    let s = c.before.before in
+    let s = c in
     let a = s.args in
     let k = s.requires in
     leb-same (suc (a.row + 1)) (a.s.height + a.s.tmax) (suc (at_row a.s.tmax a.row)) (lowest_end a.s.height)
     (λ l. omega (arith, k.thick)) (λ l. omega (arith, k.thick))
-    ∙ that-one a.k a.n _ c.before.if1.false
+    ∙ that-one a.k a.n _ c.if-k-n.false
 
-pub may-start-spec : {M : Type 1} → statement M
-may-start-spec =
+pub may_start_spec : {M : Type 1} → statement M
+may_start_spec =
     tie.close
     (tie.spec
-    (λ c. another _ _ _ c.if1.true)
+    (λ c. another _ _ _ c.if-k-n.true)
     (λ c. omega arith)
-    (λ c. let k = c.before.before.requires in omega (arith, k.high, k.thick))
+    (λ c. let k = c.requires in omega (arith, k.high, k.thick))
     returns-2)

@@ -5,26 +5,26 @@ use Rattle.readback.proofs.Answers.{read-bad, room-left, read-good}
 use Rattle.readback.proofs.read_back.Statement.{statement}
 use Rattle.readback.proofs.read_back.Tie as tie
 
-returns : tie.Need-returns
+returns : tie.Need-returns-in-Bad
 returns c =
-    let k = c.before.before.before in
-    read-bad _ _ _ _ k.check-room.ensures c.before.made.given.0.0 c.before.made.given.1
+    let k = c in
+    read-bad _ _ _ _ k.check_room-made.ensures c.in-Bad.refusal c.in-Bad.is
 
-read-entries-requires : tie.Need-read-entries-requires
+read-entries-requires : tie.Need-read_entries-requires
 read-entries-requires c κs =
-    let m = c.before.before in
-    let k = m.before.before in
-    let a = k.before.before.before.args in
-    ((k.check-room.ensures.good _ m.made2.given.1).1, room-left a.errors.now a.thicknesses.now a.count a.out.now k.check-room.ensures _ m.made2.given.1)
+    let m = c in
+    let k = m in
+    let a = k.args in
+    ((k.check_room-made.ensures.good _ m.in-Good.is).1, room-left a.errors.now a.thicknesses.now a.count a.out.now k.check_room-made.ensures _ m.in-Good.is)
 
-returns-2 : tie.Need-returns-2
+returns-2 : tie.Need-returns-in-Good
 returns-2 c =
-    let r = c.before in
-    let m = r.before.before.before in
-    read-good _ _ _ _ m.before.before.check-room.ensures _ m.made2.given.1 _ _ r.read-entries.ensures
+    let r = c in
+    let m = r in
+    read-good _ _ _ _ m.check_room-made.ensures _ m.in-Good.is _ _ r.read_entries.ensures
 
-pub read-back-spec : {M : Type 1} → statement M
-read-back-spec =
+pub read_back_spec : {M : Type 1} → statement M
+read_back_spec =
     tie.close
     (tie.spec
     (λ c κs. search rules)

@@ -16,7 +16,8 @@ use Rattle.readback.proofs.reads_back.Statement.{statement}
 use Rattle.readback.proofs.reads_back.Tie as tie
 
 -- past the step
-module _ (c : tie.Else2) where
+
+module _ (c : tie.Else-row-t) where
   abbrev s : tie.Start
   s = c.before.before.before
 
@@ -28,40 +29,40 @@ module _ (c : tie.Else2) where
 
   -- the row under the layer
   lower : at_row s.args.s.tmax (s.args.row - t) ≡ h - t
-  lower = omega (arith, s.pre.thick)
+  lower = omega (arith, s.requires.thick)
 
   rest : reads_back s.args.s.height s.args.s.members s.args.n s.args.k h t
       ≡ (not (eqb s.args.k s.args.n) || ltb (h - t) (lowest_end s.args.s.height)) && (not (eqb s.args.k 1) || ltb 32 h)
   rest =
-      step-fine _ _ s.args.n s.args.k h t (sym c.before.before.is-allowed.ensures ∙ not-false _ c.before.if1.false)
-      (omega (arith, s.pre.greatest, s.pre.thick))
+      step-fine _ _ s.args.n s.args.k h t (sym c.is_allowed.ensures ∙ c.if-not-is_allowed.false)
+      (omega (arith, s.requires.greatest, s.requires.thick))
 
 -- past the start
-module _ (c : tie.After-may-start) where
-  abbrev d : tie.Else2
+module _ (c : tie.After-may_start) where
+  abbrev d : tie.Else-row-t
   d = c.before
 
-  asked : (answer : Bool) → c.may-start.result ≡ answer → (not (eqb (s d).args.k (s d).args.n) || ltb (h d - t d) (lowest_end (s d).args.s.height)) ≡ answer
+  asked : (answer : Bool) → c.may_start.result ≡ answer → (not (eqb (s d).args.k (s d).args.n) || ltb (h d - t d) (lowest_end (s d).args.s.height)) ≡ answer
   asked answer e =
-      ap (λ (g : ℕ). not (eqb (s d).args.k (s d).args.n) || ltb g (lowest_end (s d).args.s.height)) (sym (lower d)) ∙ sym c.may-start.ensures ∙ e
+      ap (λ (g : ℕ). not (eqb (s d).args.k (s d).args.n) || ltb g (lowest_end (s d).args.s.height)) (sym (lower d)) ∙ sym c.may_start.ensures ∙ e
 
-returns-2 : tie.Need-returns-2
+returns-2 : tie.Need-returns-then-row-t
 returns-2 c =
-    let b = c.before.before.before in
+    let b = c in
     sym (stepped-under _ _ b.args.n b.args.k (at_row b.args.s.tmax b.args.row) b.args.t (omega (arith, b.requires.greatest, b.requires.thick)))
 
-returns-3 : tie.Need-returns-3
-returns-3 c = let m = c.before in sym (rest (d m) ∙ rw (asked m false (not-true _ c.if3.true)))
+returns-3 : tie.Need-returns-then-not-may_start
+returns-3 c = let m = c.before in sym (rest (d m) ∙ rw (asked m false (c.if-not-may_start.true)))
 
-returns-4 : tie.Need-returns-4
-returns-4 c = let m = c.before.before in c.may-end.ensures ∙ sym (rest (d m) ∙ rw (asked m true (not-false _ c.before.if3.false)))
+returns-4 : tie.Need-returns
+returns-4 c = let m = c.before.before in c.may_end.ensures ∙ sym (rest (d m) ∙ rw (asked m true (c.if-not-may_start.false)))
 
-pub reads-back-spec : {M : Type 1} → statement M
-reads-back-spec =
+pub reads_back_spec : {M : Type 1} → statement M
+reads_back_spec =
     tie.close
     (tie.spec
     (λ c κs. search rules)
-    (λ c. sym (barred _ _ _ _ _ _ (sym c.before.is-allowed.ensures ∙ not-true _ c.if1.true)))
+    (λ c. sym (barred _ _ _ _ _ _ (sym c.is_allowed.ensures ∙ c.if-not-is_allowed.true)))
     returns-2
     (λ c κs. search rules)
     returns-3

@@ -14,17 +14,17 @@ inside s = row_in s.args.s s.requires.0 s.args.row s.args.m s.requires.1.row s.r
 
 returns : tie.Need-returns
 returns c =
-    let s = c.before.before.before.before in
-    ap (λ (i : ℕ). get_or s.args.thicknesses.now i 0) c.before.entry-index.ensures
+    let s = c in
+    ap (λ (i : ℕ). get_or s.args.thicknesses.now i 0) c.entry_index-at.ensures
     ∙ entry_row s.args.s s.requires.0 s.args.thicknesses.now s.args.m s.args.row
 
-pub thickness-at-spec : {M : Type 1} → statement M
-thickness-at-spec =
+pub thickness_at_spec : {M : Type 1} → statement M
+thickness_at_spec =
     tie.close
     (tie.spec
-    (λ c. let s = c.before.before in omega (arith, s.requires.0.few-counts))
-    (λ c. let s = c.before.before in omega (arith, s.requires.1.count, s.requires.0.few-counts))
+    (λ c. let s = c in omega (arith, s.requires.0.few-counts))
+    (λ c. let s = c in omega (arith, s.requires.1.count, s.requires.0.few-counts))
     (λ c κs. search rules)
-    (λ c. let s = c.before.before.before.before in omega (arith, c.before.entry-index.ensures, inside s, s.requires.1.whole))
-    (λ c. omega (arith, c.shared-slice-known2.given c.before.entry-index.result))
+    (λ c. let s = c.before.before.before.before in omega (arith, c.entry_index-at.ensures, inside s, s.requires.1.whole))
+    (λ c. omega (arith, c.shared_slice_known-2-1.given c.entry_index-at.result))
     returns)

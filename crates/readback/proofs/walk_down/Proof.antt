@@ -19,7 +19,7 @@ use Rattle.readback.proofs.Walks.{step_from, fault-here, fault-on, fault-end, fi
 use Rattle.readback.proofs.walk_down.Statement.{statement}
 use Rattle.readback.proofs.walk_down.Tie as tie
 
-abbrev invariant-loop : tie.invariant-loop
+abbrev invariant-loop : tie.invariant-loop-k
 invariant-loop thicknesses s n top heights₀ row₀ k₀ heights row k =
     (k ≤ n) × (row ≤ top) × (length heights ≡ length heights₀)
     × (fault_under (entry s.height s.members thicknesses) s.height s.members n n (at_row s.tmax top)
@@ -27,7 +27,7 @@ invariant-loop thicknesses s n top heights₀ row₀ k₀ heights row k =
     × (boundaries_under (entry s.height s.members thicknesses) k (at_row s.tmax row) (noted_from (k + 1) n heights)
     ≡ boundaries_under (entry s.height s.members thicknesses) n (at_row s.tmax top) [])
 
-abbrev decreases-loop : tie.decreases-loop
+abbrev decreases-loop : tie.decreases-loop-k
 decreases-loop thicknesses s n top heights₀ row₀ k₀ heights row k = k
 
 -- a row's height fits 16 bits
@@ -35,105 +35,105 @@ height-fits : {s : Settings} → Sound s → (q : ℕ) → q ≤ s.rows → at_r
 height-fits k q l = omega (arith, k.rows_are, k.high, k.thick)
 
 -- what was asked is whether the layer under the row reads back
-module _ (c : tie.After-reads-back invariant-loop decreases-loop) where
-  abbrev here : tie.At-loop invariant-loop decreases-loop
+module _ (c : tie.After-reads_back invariant-loop decreases-loop) where
+  abbrev here : tie.At-loop-k invariant-loop decreases-loop
   here = c.before.before.before.before.before
 
   abbrev known : Settings
-  known = here.before.before.before.args.s
+  known = here.args.s
 
   abbrev thick : ℕ
-  thick = c.before.thickness-at.result
+  thick = c.thickness_at-t.result
 
-  asked : (answer : Bool) → c.reads-back.result ≡ answer → reads_back known.height known.members here.before.before.before.args.n here.loop.k (at_row known.tmax here.loop.row) thick ≡ answer
-  asked answer e = sym c.reads-back.ensures ∙ e
+  asked : (answer : Bool) → c.reads_back.result ≡ answer → reads_back known.height known.members here.args.n here.loop-k.k (at_row known.tmax here.loop-k.row) thick ≡ answer
+  asked answer e = sym c.reads_back.ensures ∙ e
 
 -- past the test on the layer
-module _ (c : tie.Else1 invariant-loop decreases-loop) where
-  abbrev l : tie.At-loop invariant-loop decreases-loop
+module _ (c : tie.Else-not-reads_back invariant-loop decreases-loop) where
+  abbrev l : tie.At-loop-k invariant-loop decreases-loop
   l = c.before.before.before.before.before.before
 
   abbrev s : tie.Start invariant-loop decreases-loop
   s = l.before.before.before
 
   abbrev t : ℕ
-  t = c.before.before.thickness-at.result
+  t = c.thickness_at-t.result
 
-  reads : reads_back s.args.s.height s.args.s.members s.args.n l.loop.k (at_row s.args.s.tmax l.loop.row) t ≡ true
-  reads = asked c.before true (not-false _ c.if1.false)
+  reads : reads_back s.args.s.height s.args.s.members s.args.n l.loop-k.k (at_row s.args.s.tmax l.loop-k.row) t ≡ true
+  reads = asked c.before true (c.if-not-reads_back.false)
 
   -- the step down is to a row
-  step : t ≤ l.loop.row
-  step = omega (arith, step_from _ _ _ _ _ _ reads, s.pre.0.greatest, s.pre.0.thick)
+  step : t ≤ l.loop-k.row
+  step = omega (arith, step_from _ _ _ _ _ _ reads, s.requires.0.greatest, s.requires.0.thick)
 
-  next : at_row s.args.s.tmax l.loop.row - t ≡ at_row s.args.s.tmax (l.loop.row - t)
-  next = omega (arith, step, s.pre.0.thick)
+  next : at_row s.args.s.tmax l.loop-k.row - t ≡ at_row s.args.s.tmax (l.loop-k.row - t)
+  next = omega (arith, step, s.requires.0.thick)
 
-returns : tie.Need-returns invariant-loop decreases-loop
+returns : tie.Need-returns-then-not-reads_back invariant-loop decreases-loop
 returns c =
-    let l = c.before.before.before.before.before.before in
+    let l = c in
     faulted _ _ _ _ _ _ _
-    (l.loop.invariant.3 ∙ fault-here _ _ _ _ l.loop.k (at_row _ l.loop.row) _ (omega arith) c.before.before.thickness-at.ensures (asked c.before false (not-true _ c.if1.true)))
+    (l.loop-k.invariant.3 ∙ fault-here _ _ _ _ l.loop-k.k (at_row _ l.loop-k.row) _ (omega arith) c.thickness_at-t.ensures (asked c.before false (c.if-not-reads_back.true)))
 
-loop-again : tie.Need-loop-preserved invariant-loop decreases-loop
+loop-again : tie.Need-loop-k-preserved invariant-loop decreases-loop
 loop-again c =
-    let e = c.before.before.thickness-at.ensures in
-    let h = at_row (s c).args.s.tmax (l c).loop.row in (
+    let e = c.thickness_at-t.ensures in
+    let h = at_row (s c).args.s.tmax (l c).loop-k.row in (
       omega arith,
       omega arith,
-      simp length-set (l c).loop.invariant.2,
-      rw (← next c) ((l c).loop.invariant.3 ∙ fault-on _ _ _ _ (l c).loop.k h _ (omega arith) e (reads c)),
-      noted_more _ (s c).args.n (l c).loop.k h _ _ _ (l c).loop.heights (omega arith) (omega arith) (omega arith) e c.before.before.before.at_row.ensures (sym (next c)) ∙ (l c).loop.invariant.4,
+      simp length-set (l c).loop-k.invariant.2,
+      rw (← next c) ((l c).loop-k.invariant.3 ∙ fault-on _ _ _ _ (l c).loop-k.k h _ (omega arith) e (reads c)),
+      noted_more _ (s c).args.n (l c).loop-k.k h _ _ _ (l c).loop-k.heights (omega arith) (omega arith) (omega arith) e c.at_row-h.ensures (sym (next c)) ∙ (l c).loop-k.invariant.4,
     )
 
 -- past the last layer
-module _ (c : tie.After-is-start invariant-loop decreases-loop) where
-  abbrev d : tie.At-loop invariant-loop decreases-loop
+module _ (c : tie.After-is_start invariant-loop decreases-loop) where
+  abbrev d : tie.At-loop-k invariant-loop decreases-loop
   d = c.before.before.before.before
 
-  start_is : c.is-start.result ≡ starts (tmax d.before.before.before.args.s.members) (at_row d.before.before.before.args.s.tmax d.loop.row)
-  start_is = c.is-start.ensures ∙ ap₂ starts d.before.before.before.pre.0.greatest c.before.at-row2.ensures
+  start_is : c.is_start.result ≡ starts (tmax d.args.s.members) (at_row d.args.s.tmax d.loop-k.row)
+  start_is = c.is_start.ensures ∙ ap₂ starts d.requires.0.greatest c.at_row-lowest.ensures
 
-returns-2 : tie.Need-returns-2 invariant-loop decreases-loop
+returns-2 : tie.Need-returns-then-not-is_start invariant-loop decreases-loop
 returns-2 c =
     let l = d c.before in
-    faulted _ _ _ _ _ _ _ (l.loop.inv.3 ∙ fault-end _ _ _ _ l.loop.k (at_row _ l.loop.row) (omega arith) (sym (start_is c.before) ∙ not-true _ c.if2.true))
+    faulted _ _ _ _ _ _ _ (l.loop-k.invariant.3 ∙ fault-end _ _ _ _ l.loop-k.k (at_row _ l.loop-k.row) (omega arith) (sym (start_is c.before) ∙ c.if-not-is_start.true))
 
-returns-3 : tie.Need-returns-3 invariant-loop decreases-loop
+returns-3 : tie.Need-returns invariant-loop decreases-loop
 returns-3 c =
     let l = d c.before in
-    let s = l.before.before.before in
+    let s = l in
     record {
-      ends = sym (l.loop.inv.3 ∙ fine_end _ _ _ _ l.loop.k (at_row _ l.loop.row) (omega arith) (sym (start_is c.before) ∙ not-false _ c.if2.false));
-      notes = λ q. noted-last _ s.args.n l.loop.k (at_row s.args.s.tmax l.loop.row) _ l.loop.heights (omega arith) (omega arith) c.before.before.at-row2.ensures ∙ l.loop.inv.4;
+      ends = sym (l.loop-k.invariant.3 ∙ fine_end _ _ _ _ l.loop-k.k (at_row _ l.loop-k.row) (omega arith) (sym (start_is c.before) ∙ c.if-not-is_start.false));
+      notes = λ q. noted-last _ s.args.n l.loop-k.k (at_row s.args.s.tmax l.loop-k.row) _ l.loop-k.heights (omega arith) (omega arith) c.at_row-lowest.ensures ∙ l.loop-k.invariant.4;
     }
 
-pub walk-down-spec : {M : Type 1} → statement M
-walk-down-spec =
+pub walk_down_spec : {M : Type 1} → statement M
+walk_down_spec =
     tie.close
     (tie.spec
     invariant-loop
     decreases-loop
     (λ c. (omega arith, omega arith, refl, refl, rw noted-none))
-    (λ c. let s = c.before.before.before.before.before in omega (arith, s.requires.0.thick))
+    (λ c. let s = c in omega (arith, s.requires.0.thick))
     (λ c κs. search rules)
-    (λ c. let s = c.before.before.before.before.before.before in omega (arith, c.at_row.ensures, height-fits s.requires.0 c.before.before.before.loop.row (omega (arith, s.requires.1.0.row))))
+    (λ c. let s = c in omega (arith, c.at_row-h.ensures, height-fits s.requires.0 c.loop-k.row (omega (arith, s.requires.1.0.row))))
     (λ c. omega arith)
     (λ c. omega arith)
-    (λ c κs. let s = c.before.before.before.before.before.before in (s.requires.0, record { whole = s.requires.1.0.whole; count = omega (arith, s.requires.1.0.count); row = omega (arith, s.requires.1.0.row) }))
-    (λ c κs. c.before.before.before.before.before.before.before.requires.0)
+    (λ c κs. let s = c in (s.requires.0, record { whole = s.requires.1.0.whole; count = omega (arith, s.requires.1.0.count); row = omega (arith, s.requires.1.0.row) }))
+    (λ c κs. c.requires.0)
     (λ c. search rules)
     returns
     (λ c. step c)
     (λ c. omega arith)
     (λ c. omega arith)
     loop-again
-    (λ c. let s = c.before.before.before.before.before in omega (arith, s.requires.0.thick))
+    (λ c. let s = c in omega (arith, s.requires.0.thick))
     (λ c κs. search rules)
     (λ c κs. search rules)
     (λ c. search rules)
     returns-2
-    (λ c. let s = c.before.before.before.before.before.before.before.before in omega (arith, c.before.before.at-row2.ensures, height-fits s.requires.0 (d c.before).loop.row (omega (arith, s.requires.1.0.row))))
+    (λ c. let s = c in omega (arith, c.at_row-lowest.ensures, height-fits s.requires.0 (d c.before).loop-k.row (omega (arith, s.requires.1.0.row))))
     (λ c. omega arith)
     (λ c. search rules)
     returns-3)

@@ -14,23 +14,23 @@ use Rattle.readback.proofs.Walks.{written}
 use Rattle.readback.proofs.write_heights.Statement.{statement}
 use Rattle.readback.proofs.write_heights.Tie as tie
 
-abbrev invariant-loop : tie.invariant-loop
+abbrev invariant-loop : tie.invariant-loop-k
 invariant-loop heights n out₀ k₀ out k = (k ≤ n + 1) × (length out ≡ length out₀) × (out ≡ map height_of (take k heights) ++ drop k out₀)
 
-abbrev decreases-loop : tie.decreases-loop
+abbrev decreases-loop : tie.decreases-loop-k
 decreases-loop heights n out₀ k₀ out k = n + 1 - k
 
-loop-again : tie.Need-loop-preserved invariant-loop decreases-loop
+loop-again : tie.Need-loop-k-preserved invariant-loop decreases-loop
 loop-again c =
-    let l = c.before.before.before in
-    let z = to_z-of_z w32 c.height-of.result (sfits_of c.height-of.type-inv) ∙ c.height-of.ensures in (
+    let l = c in
+    let z = to_z-of_z w32 c.height_of.result (sfits_of c.height_of.type_inv) ∙ c.height_of.ensures in (
       omega arith,
-      length-set l.loop.out l.loop.k _ ∙ l.loop.invariant.1,
-      rw (l.loop.invariant.2, add-one) (written _ _ l.loop.k _ (omega arith) (omega arith) z),
+      length-set l.loop-k.out l.loop-k.k _ ∙ l.loop-k.invariant.1,
+      rw (l.loop-k.invariant.2, add-one) (written _ _ l.loop-k.k _ (omega arith) (omega arith) z),
     )
 
-pub write-heights-spec : {M : Type 1} → statement M
-write-heights-spec =
+pub write_heights_spec : {M : Type 1} → statement M
+write_heights_spec =
     tie.close
     (tie.spec
     invariant-loop
@@ -44,5 +44,5 @@ write-heights-spec =
     (λ c. omega arith)
     (λ c. omega arith)
     loop-again
-    (λ c. c.before.loop.invariant.1)
-    (λ c. let l = c.before in let e : l.loop.k ≡ l.before.before.args.n + 1 = omega arith in l.loop.invariant.2 ∙ rw e))
+    (λ c. c.loop-k.invariant.1)
+    (λ c. let l = c in let e : l.loop-k.k ≡ l.args.n + 1 = omega arith in l.loop-k.invariant.2 ∙ rw e))

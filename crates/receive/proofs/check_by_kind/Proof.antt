@@ -20,7 +20,8 @@ use Rattle.receive.proofs.check_by_kind.Statement.{statement}
 use Rattle.receive.proofs.check_by_kind.Tie as tie
 
 -- the frame was judged
-module _ (m : tie.After-check-frame) where
+
+module _ (m : tie.After-check_frame-frame) where
   abbrev a : tie.Start
   a = m.before.before.before.before.before.before
 
@@ -33,53 +34,53 @@ module _ (m : tie.After-check-frame) where
   abbrev left : ℕ
   left = a.args.s.rows - a.args.row
 
-  kind-is : m.before.before.before.before.kind-at.result ≡ kind_at file (row_place head.members a.args.row)
-  kind-is = m.before.before.before.before.kind-at.ensures ∙ ap (kind_at file) a.pre.1.1
+  kind-is : m.kind_at-kind.result ≡ kind_at file (row_place head.members a.args.row)
+  kind-is = m.kind_at-kind.ensures ∙ ap (kind_at file) a.requires.1.1
 
-  allows : m.before.before.before.allowed-after.result ≡ allowed_after a.args.row (kind_at file (row_place head.members a.args.row))
-  allows = m.before.before.before.allowed-after.ensures ∙ ap (allowed_after a.args.row) kind-is
+  allows : m.allowed_after-allowed.result ≡ allowed_after a.args.row (kind_at file (row_place head.members a.args.row))
+  allows = m.allowed_after-allowed.ensures ∙ ap (allowed_after a.args.row) kind-is
 
-  right : m.before.fits2.result ≡ fits head.members (kind_at file (row_place head.members a.args.row)) (length_at file (row_place head.members a.args.row))
+  right : m.fits-right.result ≡ fits head.members (kind_at file (row_place head.members a.args.row)) (length_at file (row_place head.members a.args.row))
   right =
-      m.before.fits2.ensures
-      ∙ (λ i. fits (members-for a.pre.0.0 i) (kind-is i) ((m.before.before.length_at.ensures ∙ ap (length_at file) a.pre.1.1) i))
+      m.fits-right.ensures
+      ∙ (λ i. fits (members-for a.requires.0.0 i) (kind-is i) ((m.length_at.ensures ∙ ap (length_at file) a.requires.1.1) i))
 
-  framed : (x : Checked) → m.check-frame.result ≡ x → said_by x ≡ first (frame file head left a.args.row)
-  framed x e = ap said_by (sym e) ∙ m.check-frame.ensures ∙ (λ i. first (frame_checks file (a.pre.1.1 i) (allows i) (right i)))
+  framed : (x : Checked) → m.check_frame-frame.result ≡ x → said_by x ≡ first (frame file head left a.args.row)
+  framed x e = ap said_by (sym e) ∙ m.check_frame-frame.ensures ∙ (λ i. first (frame_checks file (a.requires.1.1 i) (allows i) (right i)))
 
 -- and passed
-module _ (m : tie.After-enum-told) where
-  abbrev judged : tie.After-check-frame
-  judged = m.before.before
+module _ (m : tie.In_default) where
+  abbrev judged : tie.After-check_frame-frame
+  judged = m.before
 
   passed : none ≡ first (frame (file judged) (head judged) (left judged) (a judged).args.row)
-  passed = framed judged _ m.enum_told.given.1
+  passed = framed judged _ m.in_default.is
 
-returns : tie.Need-returns
+returns : tie.Need-returns-in-Refused
 returns c =
-    let m = c.before.before.before in
-    record-stop (file m) (head m) (left m) (a m).args.row (numbered c.before.frame.given.0.0) (framed m _ c.before.frame.given.1)
+    let m = c.before in
+    record-stop (file m) (head m) (left m) (a m).args.row (numbered c.in-Refused.refusal) (framed m _ c.in-Refused.is)
 
-returns-2 : tie.Need-returns-2
+returns-2 : tie.Need-returns-then-kind-eq-END
 returns-2 c =
     let m = c.before.before in
     let j = judged m in
-    c.check-end.ensures ∙ end-decides (file j) (head j) (left j) (a j).args.row (passed m) (sym (kind-is j) ∙ c.before.if1.true)
+    c.check_end.ensures ∙ end-decides (file j) (head j) (left j) (a j).args.row (passed m) (sym (kind-is j) ∙ c.if-kind-eq-END.true)
 
-row-requires : tie.Need-check-row-requires
+row-requires : tie.Need-check_row-requires
 row-requires c κs =
     let m = c.before in
     let j = judged m in
-    ((a j).pre.0, ((a j).pre.1, row_within (file j) (head j) (left j) (a j).args.row (passed m) (λ e. c.if1.false (kind-is j ∙ e))))
+    ((a j).requires.0, ((a j).requires.1, row_within (file j) (head j) (left j) (a j).args.row (passed m) (λ e. c.if-kind-eq-END.false (kind-is j ∙ e))))
 
-returns-3 : tie.Need-returns-3
+returns-3 : tie.Need-returns
 returns-3 c =
     let m = c.before.before in
     let j = judged m in
-    c.check-row.ensures ∙ row-decides (file j) (head j) (left j) (a j).args.row (passed m) (λ e. c.before.if1.false (kind-is j ∙ e))
+    c.check_row.ensures ∙ row-decides (file j) (head j) (left j) (a j).args.row (passed m) (λ e. c.if-kind-eq-END.false (kind-is j ∙ e))
 
-pub check-by-kind-spec : {M : Type 1} → statement M
-check-by-kind-spec =
+pub check_by_kind_spec : {M : Type 1} → statement M
+check_by_kind_spec =
     tie.close
     (tie.spec
     (λ c κs. search rules)

@@ -10,19 +10,19 @@ use Rattle.plate.specs.declared.refusal.Refusal.{Refusal}
 use Rattle.receive.proofs.check_cells.Statement.{statement}
 use Rattle.receive.proofs.check_cells.Tie as tie
 
-returns : tie.Need-returns
+returns : tie.Need-returns-then-any_over
 returns c =
-    let i = c.before.before in
-    ap (λ (r : Refusal). some (numbered r)) c.refusal-at.ensures
-    ∙ ap (λ (b : Bool). first (check 6 b i.before.before.args.at ∷ [])) (sym c.before.if1.true ∙ i.any-over.ensures)
+    let i = c in
+    ap (λ (r : Refusal). some (numbered r)) c.refusal_at.ensures
+    ∙ ap (λ (b : Bool). first (check 6 b i.args.at ∷ [])) (sym c.if-any_over.true ∙ i.any_over.ensures)
 
-returns-2 : tie.Need-returns-2
+returns-2 : tie.Need-returns
 returns-2 c =
-    let i = c.before in
-    ap (λ (b : Bool). first (check 6 b i.before.before.args.at ∷ [])) (sym c.if1.false ∙ i.any-over.ensures)
+    let i = c in
+    ap (λ (b : Bool). first (check 6 b i.args.at ∷ [])) (sym c.if-any_over.false ∙ i.any_over.ensures)
 
-pub check-cells-spec : {M : Type 1} → statement M
-check-cells-spec =
+pub check_cells_spec : {M : Type 1} → statement M
+check_cells_spec =
     tie.close
     (tie.spec
     (λ c. search rules)

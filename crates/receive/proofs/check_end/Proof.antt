@@ -17,6 +17,7 @@ use Rattle.receive.proofs.check_end.Statement.{statement}
 use Rattle.receive.proofs.check_end.Tie as tie
 
 -- what is known from the start
+
 module _ (a : tie.Start) where
   abbrev file : List ℕ
   file = a.args.file.now
@@ -25,38 +26,38 @@ module _ (a : tie.Start) where
   place = row_place (head_in file).members a.args.row
 
   small : a.args.at ≤ 76_930
-  small = omega (arith, a.pre.1.1, place-small a.pre.0 a.args.row a.pre.1.0)
+  small = omega (arith, a.requires.1.1, place-small a.requires.0 a.args.row a.requires.1.0)
 
   word_at : le16 file (a.args.at + 4) ≡ le16 file (place + 4)
-  word_at = ap (λ (n : ℕ). le16 file (n + 4)) a.pre.1.1
+  word_at = ap (λ (n : ℕ). le16 file (n + 4)) a.requires.1.1
 
   -- a refusal at the record's first byte
   refused : (number : ℕ) → some (at number a.args.at) ≡ some (at number place)
-  refused number = ap (λ (n : ℕ). some (at number n)) a.pre.1.1
+  refused number = ap (λ (n : ℕ). some (at number n)) a.requires.1.1
 
-returns : tie.Need-returns
+returns : tie.Need-returns-then-row-s
 returns c =
     let a = c.before.before.before.before in
-    ap (λ (r : Refusal). some (numbered r)) c.refusal-at.ensures ∙ refused a _ ∙ end-missing (file a) (head_in (file a)) _ a.args.row (omega arith)
+    ap (λ (r : Refusal). some (numbered r)) c.refusal_at.ensures ∙ refused a _ ∙ end-missing (file a) (head_in (file a)) _ a.args.row (omega arith)
 
-returns-2 : tie.Need-returns-2
+returns-2 : tie.Need-returns-then-word-s
 returns-2 c =
-    let w = c.before.before.before in
-    let a = w.before.before.before.before in
-    ap (λ (r : Refusal). some (numbered r)) c.refusal-at2.ensures ∙ refused a _
-    ∙ end-unequal (file a) (head_in (file a)) _ a.args.row (omega arith) (λ e. c.before.if2.true (w.word.ensures ∙ word_at a ∙ e ∙ sym (rows_are a.requires.0)))
+    let w = c in
+    let a = w.before.before.before.before.before.before.before in
+    ap (λ (r : Refusal). some (numbered r)) c.refusal_at-then-word-s.ensures ∙ refused a _
+    ∙ end-unequal (file a) (head_in (file a)) _ a.args.row (omega arith) (λ e. c.if-word-s.true (w.word.ensures ∙ word_at a ∙ e ∙ sym (rows_are a.requires.0)))
 
-returns-3 : tie.Need-returns-3
+returns-3 : tie.Need-returns
 returns-3 c =
-    let w = c.before.before.before in
-    let a = w.before.before.before.before in
+    let w = c in
+    let a = w.before.before.before.before.before.before.before in
     let behind : a.args.at + 6 ≡ place a + 4 + 2 = omega (arith, a.requires.1.1) in
-    c.check-tail.ensures
+    c.check_tail.ensures
     ∙ ap (λ (n : ℕ). first (tail (file a) n ∷ [])) behind
-    ∙ end-tail (file a) (head_in (file a)) _ a.args.row (omega arith) (sym (word_at a) ∙ sym w.word.ensures ∙ c.before.if2.false ∙ rows_are a.requires.0)
+    ∙ end-tail (file a) (head_in (file a)) _ a.args.row (omega arith) (sym (word_at a) ∙ sym w.word.ensures ∙ c.if-word-s.false ∙ rows_are a.requires.0)
 
-pub check-end-spec : {M : Type 1} → statement M
-check-end-spec =
+pub check_end_spec : {M : Type 1} → statement M
+check_end_spec =
     tie.close
     (tie.spec
     (λ c κs. search rules)

@@ -21,67 +21,68 @@ use Rattle.receive.proofs.check_opening.Statement.{statement}
 use Rattle.receive.proofs.check_opening.Tie as tie
 
 -- the frame was judged
-module _ (m : tie.After-check-frame) where
-  abbrev file : List ℕ
-  file = m.before.before.before.before.args.file.now
 
-  framed : (x : Checked) → m.check-frame.result ≡ x → said_by x ≡ first (opening_frame file)
+module _ (m : tie.After-check_frame-frame) where
+  abbrev file : List ℕ
+  file = m.args.file.now
+
+  framed : (x : Checked) → m.check_frame-frame.result ≡ x → said_by x ≡ first (opening_frame file)
   framed x e =
-      ap said_by (sym e) ∙ m.check-frame.ensures
-      ∙ (λ i. first (frame_checks file 0 (eqb (m.before.before.kind-at.ensures i) 16) (eqb (m.before.length_at.ensures i) 10)))
+      ap said_by (sym e) ∙ m.check_frame-frame.ensures
+      ∙ (λ i. first (frame_checks file 0 (eqb (m.kind_at-allowed.ensures i) 16) (eqb (m.length_at-right.ensures i) 10)))
 
 -- and passed
-module _ (m : tie.After-enum-told) where
-  abbrev frame : tie.After-check-frame
-  frame = m.before.before
+module _ (m : tie.In_default) where
+  abbrev frame : tie.After-check_frame-frame
+  frame = m.before
 
   passed : none ≡ first (opening_frame (file frame))
-  passed = framed frame _ m.enum_told.given.1
+  passed = framed frame _ m.in_default.is
 
 -- the settings were judged
-module _ (m : tie.After-new) where
-  abbrev before : tie.After-enum-told
+module _ (m : tie.After-new-made) where
+  abbrev before : tie.In_default
   before = m.before.before
 
   abbrev head : Head
   head = head_in (file (frame before))
 
-  judged : Judges m.new.result (head_checks head) head.height head.members
-  judged = subst (λ (h : Head). Judges m.new.result (head_checks h) h.height h.members) m.before.head_in.ensures m.new.ensures
+  judged : Judges m.new-made.result (head_checks head) head.height head.members
+  judged = subst (λ (h : Head). Judges m.new-made.result (head_checks h) h.height h.members) m.head_in-head.ensures m.new-made.ensures
 
-returns : tie.Need-returns
+returns : tie.Need-returns-in-Refused
 returns c =
-    let m = c.before.before.before in
-    judges-bad _ _ _ _ _ refl (frame-stop (file m) (numbered c.before.frame.given.0.0) (framed m _ c.before.frame.given.1))
+    let m = c.before in
+    judges-bad _ _ _ _ _ refl (frame-stop (file m) (numbered c.in-Refused.refusal) (framed m _ c.in-Refused.is))
 
-returns-2 : tie.Need-returns-2
+returns-2 : tie.Need-returns-in-Bad
 returns-2 c =
-    let m = c.before.before.before in
+    let m = c.before in
     judges-bad _ _ _ _ _ refl
-    (settings-stop (file (frame (before m))) (passed (before m)) (numbered c.before.made.given.0.0) (ap said_made (sym c.before.made.given.1) ∙ (judged m).says))
+    (settings-stop (file (frame (before m))) (passed (before m)) (numbered c.in-Bad.refusal) (ap said_made (sym c.in-Bad.is) ∙ (judged m).says))
 
 -- and passed
-settled : (m : tie.After-enum-told2) → none ≡ first (head_checks (head m.before.before))
-settled m = ap said_made (sym m.enum-told2.given.1) ∙ (judged m.before.before).says
+settled : (m : tie.In_default-made) → none ≡ first (head_checks (head m.before))
+settled m = ap said_made (sym m.in_default-made.is) ∙ (judged m.before).says
 
-over : (m : tie.After-is-over) → m.is-over.result ≡ is_over (head m.before.before.before)
-over m = m.is-over.ensures ∙ ap is_over m.before.before.before.before.head_in.ensures
+over : (m : tie.After-is_over) → m.is_over.result ≡ is_over (head m.before.before)
+over m = m.is_over.ensures ∙ ap is_over m.head_in-head.ensures
 
-returns-3 : tie.Need-returns-3
+returns-3 : tie.Need-returns-then-is_over
 returns-3 c =
     let o = c.before.before in
-    let m = o.before.before.before in
-    judges-bad _ _ _ _ _ (ap Bad c.refusal-at.ensures) (over-stop (file (frame (before m))) (passed (before m)) (settled o.before) (sym (over o) ∙ c.before.if1.true))
+    let m = o.before.before in
+    judges-bad _ _ _ _ _ (ap Bad c.refusal_at.ensures) (over-stop (file (frame (before m))) (passed (before m)) (settled o.before) (sym (over o) ∙ c.if-is_over.true))
 
-returns-4 : tie.Need-returns-4
+returns-4 : tie.Need-returns
 returns-4 c =
     let o = c.before in
-    let m = o.before.before.before in
-    let made = o.before.enum-told2.given in
-    judges-good _ _ _ _ _ made.1 ((judged m).well-formed _ made.1) (opening-passed (file (frame (before m))) (passed (before m)) (settled o.before) (sym (over o) ∙ c.if1.false))
+    let m = o.before.before in
+    let made = o.in_default-made in
+    judges-good _ _ _ _ _ made.is ((judged m).good _ made.is) (opening-passed (file (frame (before m))) (passed (before m)) (settled o.before) (sym (over o) ∙ c.if-is_over.false))
 
-pub check-opening-spec : {M : Type 1} → statement M
-check-opening-spec =
+pub check_opening_spec : {M : Type 1} → statement M
+check_opening_spec =
     tie.close
     (tie.spec
     (λ c κs. search rules)

@@ -23,7 +23,8 @@ use Rattle.receive.proofs.check_record.Statement.{statement}
 use Rattle.receive.proofs.check_record.Tie as tie
 
 -- a row stands there
-module _ (m : tie.Then2) where
+
+module _ (m : tie.Then-stands) where
   abbrev a : tie.Start
   a = m.before.before.before.before.before.before
 
@@ -37,39 +38,39 @@ module _ (m : tie.Then2) where
   left = a.args.s.rows - a.args.row
 
   abbrev place : (a.args.at ≡ row_place head.members a.args.row)
-  place = a.pre.1.1
+  place = a.requires.1.1
 
-  row : RowStands file a.args.at a.args.s.tmax m.before.before.start-bits.result
-  row = m.before.stands.ensures m.if2.taken
+  row : RowStands file a.args.at a.args.s.tmax m.start_bits.result
+  row = m.stands.ensures m.if-stands.true
 
   kind-is : kind_at file (row_place head.members a.args.row) ≡ row_kind
   kind-is = sym (ap (kind_at file) place) ∙ row.kind-is
 
   long : length_at file (row_place head.members a.args.row) ≡ row_length head.members
   unfolding row_length
-  long = sym (ap (length_at file) place) ∙ row.long ∙ ap (λ (n : ℕ). 2 + 4 * n) (greatest-for a.pre.0.0)
+  long = sym (ap (length_at file) place) ∙ row.long ∙ ap (λ (n : ℕ). 2 + 4 * n) (greatest-for a.requires.0.0)
 
   starts : le16 file (row_place head.members a.args.row + 4) ≡ twos16 (row_start head.members a.args.row)
-  starts = sym (ap (λ (n : ℕ). le16 file (n + 4)) place) ∙ row.starts ∙ m.before.before.start-bits.ensures ∙ start_is a.pre.0.0 a.args.row
+  starts = sym (ap (λ (n : ℕ). le16 file (n + 4)) place) ∙ row.starts ∙ m.start_bits.ensures ∙ start_is a.requires.0.0 a.args.row
 
   framed : none ≡ first (frame file head left a.args.row)
-  framed = row-framed file head left a.args.row kind-is long (omega (arith, row.within, place, place-for a.pre.0.0 a.args.row))
+  framed = row-framed file head left a.args.row kind-is long (omega (arith, row.within, place, place-for a.requires.0.0 a.args.row))
 
-cells-requires : tie.Need-check-cells-requires
+cells-requires : tie.Need-check_cells-requires
 cells-requires c κs = ((a c).requires.0.0.sound.thick, (row c).within)
 
-returns : tie.Need-returns
+returns : tie.Need-returns-then-stands
 returns c =
     let m = c.before in
     let g = (a m).args in
     let over = some-over (a m).requires.0.0 g.limits.now (file m) (a m).requires.0.1 g.row g.at (place m) in
-    c.check-cells.ensures
+    c.check_cells.ensures
     ∙ (λ i. first (check 6 (over i) (place m i) ∷ []))
     ∙ row-cells (file m) (head m) (left m) g.row (omega arith) (starts m)
     ∙ row-decides (file m) (head m) (left m) g.row (framed m) (λ e. omega (arith, kind-is m))
 
-pub check-record-spec : {M : Type 1} → statement M
-check-record-spec =
+pub check_record_spec : {M : Type 1} → statement M
+check_record_spec =
     tie.close
     (tie.spec
     (λ c κs. search rules)

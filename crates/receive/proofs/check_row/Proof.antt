@@ -21,6 +21,7 @@ use Rattle.receive.proofs.check_row.Statement.{statement}
 use Rattle.receive.proofs.check_row.Tie as tie
 
 -- what is known from the start
+
 module _ (a : tie.Start) where
   abbrev file : List ℕ
   file = a.args.file.now
@@ -29,52 +30,52 @@ module _ (a : tie.Start) where
   place = row_place (head_in file).members a.args.row
 
   small : a.args.at ≤ 76_930
-  small = omega (arith, a.pre.1.0.1, place-small a.pre.0.0 a.args.row a.pre.1.0.0)
+  small = omega (arith, a.requires.1.0.1, place-small a.requires.0.0 a.args.row a.requires.1.0.0)
 
   -- its cells stand in the file
   room : a.args.at + 6 + 4 * a.args.s.tmax ≤ length file
-  room = omega (arith, a.pre.1.0.1, place-for a.pre.0.0 a.args.row, a.pre.1.1)
+  room = omega (arith, a.requires.1.0.1, place-for a.requires.0.0 a.args.row, a.requires.1.1)
 
   word_at : le16 file (a.args.at + 4) ≡ le16 file (place + 4)
-  word_at = ap (λ (n : ℕ). le16 file (n + 4)) a.pre.1.0.1
+  word_at = ap (λ (n : ℕ). le16 file (n + 4)) a.requires.1.0.1
 
   -- a refusal at the record's first byte
   refused : (number : ℕ) → some (at number a.args.at) ≡ some (at number place)
-  refused number = ap (λ (n : ℕ). some (at number n)) a.pre.1.0.1
+  refused number = ap (λ (n : ℕ). some (at number n)) a.requires.1.0.1
 
 -- past the start
-module _ (m : tie.Else2) where
+module _ (m : tie.Else-word-start_bits) where
   abbrev a : tie.Start
   a = m.before.before.before.before.before.before
 
   starts : le16 (file a) (place a + 4) ≡ twos16 (row_start (head_in (file a)).members a.args.row)
-  starts = sym (word_at a) ∙ sym m.before.before.word.ensures ∙ m.if2.left ∙ m.before.start-bits.ensures ∙ start_is a.pre.0.0 a.args.row
+  starts = sym (word_at a) ∙ sym m.word.ensures ∙ m.if-word-start_bits.false ∙ m.start_bits.ensures ∙ start_is a.requires.0.0 a.args.row
 
   is-over : some_over (head_in (file a)) (row_at (file a) (head_in (file a)).members a.args.row) ≡ some_below (over_at a.args.limits.now (file a) (a.args.at + 6)) a.args.s.tmax
-  is-over = sym (some-over a.pre.0.0 a.args.limits.now (file a) a.pre.0.1 a.args.row a.args.at a.pre.1.0.1)
+  is-over = sym (some-over a.requires.0.0 a.args.limits.now (file a) a.requires.0.1 a.args.row a.args.at a.requires.1.0.1)
 
-returns : tie.Need-returns
+returns : tie.Need-returns-then-s-row
 returns c =
     let a = c.before.before.before.before in
-    ap (λ (r : Refusal). some (numbered r)) c.refusal-at.ensures ∙ refused a _ ∙ row-past (file a) (head_in (file a)) _ a.args.row (omega arith)
+    ap (λ (r : Refusal). some (numbered r)) c.refusal_at.ensures ∙ refused a _ ∙ row-past (file a) (head_in (file a)) _ a.args.row (omega arith)
 
-returns-2 : tie.Need-returns-2
+returns-2 : tie.Need-returns-then-word-start_bits
 returns-2 c =
-    let w = c.before.before.before in
-    let a = w.before.before.before.before in
-    ap (λ (r : Refusal). some (numbered r)) c.refusal-at2.ensures ∙ refused a _
+    let w = c in
+    let a = w.before.before.before.before.before.before.before in
+    ap (λ (r : Refusal). some (numbered r)) c.refusal_at-then-word-start_bits.ensures ∙ refused a _
     ∙ row-elsewhere (file a) (head_in (file a)) _ a.args.row (omega arith)
-    (λ e. c.before.if2.true (w.word.ensures ∙ word_at a ∙ e ∙ sym (c.before.before.start-bits.ensures ∙ start_is a.requires.0.0 a.args.row)))
+    (λ e. c.if-word-start_bits.true (w.word.ensures ∙ word_at a ∙ e ∙ sym (c.start_bits.ensures ∙ start_is a.requires.0.0 a.args.row)))
 
-returns-3 : tie.Need-returns-3
+returns-3 : tie.Need-returns
 returns-3 c =
     let m = c.before in
-    c.check-cells.ensures
+    c.check_cells.ensures
     ∙ (λ i. first (check 6 (sym (is-over m) i) ((a m).requires.1.0.1 i) ∷ []))
     ∙ row-cells (file (a m)) (head_in (file (a m))) _ (a m).args.row (omega arith) (starts m)
 
-pub check-row-spec : {M : Type 1} → statement M
-check-row-spec =
+pub check_row_spec : {M : Type 1} → statement M
+check_row_spec =
     tie.close
     (tie.spec
     (λ c κs. search rules)

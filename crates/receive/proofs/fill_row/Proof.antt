@@ -12,10 +12,10 @@ use Rattle.record.proofs.Stores.{stored-then}
 use Rattle.receive.proofs.fill_row.Statement.{statement}
 use Rattle.receive.proofs.fill_row.Tie as tie
 
-abbrev invariant-loop : tie.invariant-loop
+abbrev invariant-loop : tie.invariant-loop-j
 invariant-loop file at table₀ base width j₀ table j = (j ≤ width) × (length table ≡ length table₀) × (table ≡ sets table₀ base (quads file at j))
 
-abbrev decreases-loop : tie.decreases-loop
+abbrev decreases-loop : tie.decreases-loop-j
 decreases-loop file at table₀ base width j₀ table j = width - j
 
 -- one cell more
@@ -25,35 +25,35 @@ one_more file table old at base j e =
     let next : suc j ≡ j + 1 = omega arith in
     stored-then old table base (base + j) (quads file at j) (le32 file (at + 4 * j) ∷ []) e (omega (arith, length-quads file at j)) ∙ ap (λ (n : ℕ). sets old base (quads file at n)) next
 
-loop-holds : tie.Need-loop-init invariant-loop decreases-loop
+loop-holds : tie.Need-loop-j-init invariant-loop decreases-loop
 unfolding quads
 loop-holds c = (omega arith, refl, refl)
 
-pub fill-row-spec : {M : Type 1} → statement M
-fill-row-spec =
+pub fill_row_spec : {M : Type 1} → statement M
+fill_row_spec =
     tie.close
     (tie.spec
     invariant-loop
     decreases-loop
     loop-holds
-    (λ c. omega (arith, c.before.loop.invariant.1))
-    (λ c. omega (arith, c.before.loop.invariant.1))
-    (λ c κs. omega (arith, c.before.loop.invariant.1))
-    (λ c. omega (arith, c.before.before.loop.invariant.1))
+    (λ c. omega (arith, c.loop-j.invariant.1))
+    (λ c. omega (arith, c.loop-j.invariant.1))
+    (λ c κs. omega (arith, c.loop-j.invariant.1))
+    (λ c. omega (arith, c.loop-j.invariant.1))
     (λ c. search rules)
-    (λ c. omega (arith, c.before.before.loop.invariant.1))
+    (λ c. omega (arith, c.loop-j.invariant.1))
     (λ c. search rules)
     (λ c. search rules)
     (λ c.
-    let l = c.before.before.loop in
-    let a = c.before.before.before.before.before.args in (
+    let l = c.loop-j in
+    let a = c.args in (
       omega arith,
-      length-set l.table (a.base + l.j) c.Cell-at.result ∙ l.invariant.1,
-      ap (set l.table (a.base + l.j)) c.Cell-at.ensures ∙ one_more a.file.now l.table a.table.now a.at a.base l.j l.invariant.2,
+      length-set l.table (a.base + l.j) c.cell_at.result ∙ l.invariant.1,
+      ap (set l.table (a.base + l.j)) c.cell_at.ensures ∙ one_more a.file.now l.table a.table.now a.at a.base l.j l.invariant.2,
     ))
-    (λ c. c.before.loop.invariant.1)
+    (λ c. c.loop-j.invariant.1)
     (λ c.
-    let l = c.before.loop in
-    let a = c.before.before.before.before.args in
+    let l = c.loop-j in
+    let a = c.args in
     let all : l.j ≡ a.width = omega arith in
     l.invariant.2 ∙ ap (λ (n : ℕ). sets a.table.now a.base (quads a.file.now a.at n)) all))

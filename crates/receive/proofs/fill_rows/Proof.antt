@@ -22,7 +22,7 @@ use Rattle.table.proofs.Cells.{row_in, greatest-for}
 use Rattle.receive.proofs.fill_rows.Statement.{statement}
 use Rattle.receive.proofs.fill_rows.Tie as tie
 
-abbrev invariant-loop : tie.invariant-loop
+abbrev invariant-loop : tie.invariant-loop-row
 invariant-loop file s table₀ at₀ base₀ row₀ table at base row =
     (row ≤ s.rows)
     × (base ≡ row * s.tmax)
@@ -30,7 +30,7 @@ invariant-loop file s table₀ at₀ base₀ row₀ table at base row =
     × (length table ≡ length table₀)
     × (table ≡ sets table₀ 0 (cells_from file (head_in file).members row 0))
 
-abbrev decreases-loop : tie.decreases-loop
+abbrev decreases-loop : tie.decreases-loop-row
 decreases-loop file s table₀ at₀ base₀ row₀ table at base row = s.rows - row
 
 -- one row more
@@ -51,36 +51,36 @@ one_more {head} {s} f file old table row at base b p e =
     none = omega arith
 
 -- of this row
-module _ (m : tie.Then1 invariant-loop decreases-loop) where
+module _ (m : tie.In-loop-row invariant-loop decreases-loop) where
   abbrev a : tie.Start invariant-loop decreases-loop
   a = m.before.before.before.before.before
 
   abbrev row : ℕ
-  row = m.before.before.loop.row
+  row = m.loop-row.row
 
-  abbrev place : (m.before.before.loop.at ≡ row_place (head_in a.args.file.now).members row)
-  place = m.before.before.loop.inv.2
+  abbrev place : (m.loop-row.at ≡ row_place (head_in a.args.file.now).members row)
+  place = m.loop-row.invariant.2
 
   -- its cells stand in the file, and have their place in the table
-  in-file : m.before.before.loop.at + (6 + 4 * a.args.s.tmax) ≤ length a.args.file.now
-  in-file = omega (arith, place, place-for a.pre.0 row, place_in a.pre.0 row (omega arith), a.pre.1.0)
+  in-file : m.loop-row.at + (6 + 4 * a.args.s.tmax) ≤ length a.args.file.now
+  in-file = omega (arith, place, place-for a.requires.0 row, place_in a.requires.0 row (omega arith), a.requires.1.0)
 
-  in_table : m.before.before.loop.base + a.args.s.tmax ≤ a.args.s.cells
-  in_table = omega (arith, m.before.before.loop.inv.1, row_in a.pre.0.sound row (omega arith))
+  in_table : m.loop-row.base + a.args.s.tmax ≤ a.args.s.cells
+  in_table = omega (arith, m.loop-row.invariant.1, row_in a.requires.0.sound row (omega arith))
 
-loop-holds : tie.Need-loop-init invariant-loop decreases-loop
+loop-holds : tie.Need-loop-row-init invariant-loop decreases-loop
 unfolding cells_from
-loop-holds c = (omega arith, omega arith, sym (place-first (head_in c.before.before.args.file.now).members), refl, refl)
+loop-holds c = (omega arith, omega arith, sym (place-first (head_in c.args.file.now).members), refl, refl)
 
-row-requires : tie.Need-fill-row-requires invariant-loop decreases-loop
-row-requires c κs = let m = c.before in (omega (arith, in-file m), omega (arith, in_table m, m.before.before.loop.invariant.3, (a m).requires.1.1))
+row-requires : tie.Need-fill_row-requires invariant-loop decreases-loop
+row-requires c κs = let m = c.before in (omega (arith, in-file m), omega (arith, in_table m, m.loop-row.invariant.3, (a m).requires.1.1))
 
-loop-again : tie.Need-loop-preserved invariant-loop decreases-loop
+loop-again : tie.Need-loop-row-preserved invariant-loop decreases-loop
 loop-again c =
     let m = c.before.before.before.before.before.before in
-    let l = m.before.before.loop in
+    let l = m.loop-row in
     let g = (a m).args in
-    let stored = c.before.before.before.before.fill-row.ensures in (
+    let stored = c.fill_row.ensures in (
       omega arith,
       rw l.invariant.1 (omega arith),
       omega (arith, place m, place-for (a m).requires.0 (row m)),
@@ -90,13 +90,13 @@ loop-again c =
 
 returns : tie.Need-returns invariant-loop decreases-loop
 returns c =
-    let l = c.before.before.loop in
-    let g = c.before.before.before.before.before.args in
+    let l = c.loop-row in
+    let g = c.args in
     let all : l.row ≡ g.s.rows = omega arith in
     l.invariant.4 ∙ ap (λ (n : ℕ). sets g.table.now 0 (cells_from g.file.now (head_in g.file.now).members n 0)) all
 
-pub fill-rows-spec : {M : Type 1} → statement M
-fill-rows-spec =
+pub fill_rows_spec : {M : Type 1} → statement M
+fill_rows_spec =
     tie.close
     (tie.spec
     invariant-loop
@@ -111,5 +111,5 @@ fill-rows-spec =
     (λ c. search rules)
     (λ c. search rules)
     loop-again
-    (λ c. c.before.before.loop.invariant.3)
+    (λ c. c.loop-row.invariant.3)
     returns)

@@ -8,15 +8,15 @@ use Rattle.sent.specs.Kinds.{end_kind, row_length, fits}
 use Rattle.receive.proofs.fits.Statement.{statement}
 use Rattle.receive.proofs.fits.Tie as tie
 
-returns : tie.Need-returns
+returns : tie.Need-returns-then-kind-eq-END
 unfolding fits
-returns c = simp (eq-eqb c.before.args.kind end_kind c.if1.true)
+returns c = simp (eq-eqb c.args.kind end_kind c.if-kind-eq-END.true)
 
-returns-2 : tie.Need-returns-2
+returns-2 : tie.Need-returns
 unfolding fits row_length
 returns-2 c =
-    let a = c.before.before in
-    ap (λ (n : ℕ). eqb a.args.length (2 + 4 * n)) a.requires.greatest ∙ simp (ne_eqb a.args.kind end_kind c.before.if1.false)
+    let a = c in
+    ap (λ (n : ℕ). eqb a.args.length (2 + 4 * n)) a.requires.greatest ∙ simp (ne_eqb a.args.kind end_kind c.if-kind-eq-END.false)
 
-pub fits-spec : {M : Type 1} → statement M
-fits-spec = tie.close (tie.spec returns (λ c. search rules) (λ c. search rules) returns-2)
+pub fits_spec : {M : Type 1} → statement M
+fits_spec = tie.close (tie.spec returns (λ c. search rules) (λ c. search rules) returns-2)

@@ -6,7 +6,7 @@ use Rattle.receive.proofs.head_in.Tie as tie
 
 returns : tie.Need-returns
 unfolding head_in
-returns c = λ i. record { height = c.before.before.word.ensures i; members = c.before.quad.ensures i; columns = c.quad2.ensures i }
+returns c = λ i. record { height = c.word.ensures i; members = c.quad.ensures i; columns = c.quad-2.ensures i }
 
-pub head-in-spec : {M : Type 1} → statement M
-head-in-spec = tie.close (tie.spec (λ c κs. search rules) (λ c. search rules) (λ c κs. search rules) (λ c κs. search rules) returns)
+pub head_in_spec : {M : Type 1} → statement M
+head_in_spec = tie.close (tie.spec (λ c κs. search rules) (λ c. search rules) (λ c κs. search rules) (λ c κs. search rules) returns)

@@ -27,15 +27,15 @@ use Rattle.receive.proofs.Answers.{records-stop, table-stop, all_pass, cells_lef
 use Rattle.receive.proofs.read_records.Statement.{statement}
 use Rattle.receive.proofs.read_records.Tie as tie
 
-records-requires : tie.Need-check-records-requires
+records-requires : tie.Need-check_records-checked-requires
 records-requires c κs =
-    let l = c.before in
-    let a = l.before.before.before.before in
+    let l = c in
+    let a = l in
     let head = head_in a.args.file.now in
-    (a.requires.1, subst (λ (h : Head). Limits h l.Limits-of.result) (ap capped l.before.head_in.ensures ∙ capped_same head (opened-few a.args.file.now a.requires.0)) l.Limits-of.ensures)
+    (a.requires.1, subst (λ (h : Head). Limits h l.limits_of-limits.result) (ap capped l.head_in-head.ensures ∙ capped_same head (opened-few a.args.file.now a.requires.0)) l.limits_of-limits.ensures)
 
 -- the other records were judged
-module _ (m : tie.After-check-records) where
+module _ (m : tie.After-check_records-checked) where
   abbrev a : tie.Start
   a = m.before.before.before.before.before.before
 
@@ -45,55 +45,55 @@ module _ (m : tie.After-check-records) where
   abbrev lent : List ℕ
   lent = a.args.table.now
 
-  judged : (x : Checked) → m.check-records.result ≡ x → said_by x ≡ first (rows_checks file (head_in file) (rows_of (head_in file)) 0)
-  judged x e = ap said_by (sym e) ∙ m.check-records.ensures ∙ ap (λ (n : ℕ). first (rows_checks file (head_in file) n 0)) (rows_are a.pre.1)
+  judged : (x : Checked) → m.check_records-checked.result ≡ x → said_by x ≡ first (rows_checks file (head_in file) (rows_of (head_in file)) 0)
+  judged x e = ap said_by (sym e) ∙ m.check_records-checked.ensures ∙ ap (λ (n : ℕ). first (rows_checks file (head_in file) n 0)) (rows_are a.requires.1)
 
-  value : m.before.before.before.head_in.result ≡ (receiving file lent).value
+  value : m.head_in-head.result ≡ (receiving file lent).value
   unfolding receiving
-  value = m.before.before.before.head_in.ensures
+  value = m.head_in-head.ensures
 
 -- and passed
-module _ (m : tie.After-enum-told) where
-  abbrev records : tie.After-check-records
-  records = m.before.before
+module _ (m : tie.In_default) where
+  abbrev records : tie.After-check_records-checked
+  records = m.before
 
   passed : none ≡ first (rows_checks (file records) (head_in (file records)) (rows_of (head_in (file records))) 0)
-  passed = judged records _ m.enum_told.given.1
+  passed = judged records _ m.in_default.is
 
-returns : tie.Need-returns
+returns : tie.Need-returns-in-Refused
 unfolding receiving
 returns c =
-    let m = c.before.before.before in
-    refuses (receiving (file m) (lent m)) c.before.checked.given.0.0
-    (records-stop (file m) (lent m) (a m).requires.0 (numbered c.before.checked.given.0.0) (judged m _ c.before.checked.given.1))
+    let m = c.before in
+    refuses (receiving (file m) (lent m)) c.in-Refused.refusal
+    (records-stop (file m) (lent m) (a m).requires.0 (numbered c.in-Refused.refusal) (judged m _ c.in-Refused.is))
 
-returns-2 : tie.Need-returns-2
+returns-2 : tie.Need-returns-then-table-s
 unfolding receiving
 returns-2 c =
     let t = c.before.before.before in
     let m = records t in
-    refuses (receiving (file m) (lent m)) c.refusal-at.result
-    (ap (λ (r : Refusal). some (numbered r)) c.refusal-at.ensures ∙ table-stop (file m) (lent m) (a m).pre.0 (passed t) (omega (arith, cells-for (a m).pre.1)))
+    refuses (receiving (file m) (lent m)) c.refusal_at.result
+    (ap (λ (r : Refusal). some (numbered r)) c.refusal_at.ensures ∙ table-stop (file m) (lent m) (a m).requires.0 (passed t) (omega (arith, cells-for (a m).requires.1)))
 
-rows-requires : tie.Need-fill-rows-requires
+rows-requires : tie.Need-fill_rows-requires
 rows-requires c κs =
     let t = c.before.before.before in
     let m = records t in
     let head = head_in (file m) in
-    let all : 0 + rows_of head ≡ (a m).args.s.rows = omega (arith, rows_are (a m).pre.1) in
-    ((a m).pre.1, (subst (λ (n : ℕ). row_place head.members n ≤ length (file m)) all (rows-within (file m) head (rows_of head) 0 (passed t)), omega arith))
+    let all : 0 + rows_of head ≡ (a m).args.s.rows = omega (arith, rows_are (a m).requires.1) in
+    ((a m).requires.1, (subst (λ (n : ℕ). row_place head.members n ≤ length (file m)) all (rows-within (file m) head (rows_of head) 0 (passed t)), omega arith))
 
-returns-3 : tie.Need-returns-3
+returns-3 : tie.Need-returns
 unfolding cells_in
 returns-3 c =
     let t = c.before.before.before.before.before.before in
     let m = records t in
-    let room : cells_of (head_in (file m)) ≤ length (lent m) = omega (arith, cells-for (a m).pre.1) in
-    let all = ap (λ (n : ℕ). sets (lent m) 0 (cells_from (file m) (head_in (file m)).members n 0)) (rows_are (a m).pre.1) in
-    works (receiving (file m) (lent m)) _ _ (all_pass (file m) (lent m) (a m).pre.0 (passed t) room) (value m) (c.before.before.fill-rows.ensures ∙ all ∙ cells_left (file m) (lent m) room)
+    let room : cells_of (head_in (file m)) ≤ length (lent m) = omega (arith, cells-for (a m).requires.1) in
+    let all = ap (λ (n : ℕ). sets (lent m) 0 (cells_from (file m) (head_in (file m)).members n 0)) (rows_are (a m).requires.1) in
+    works (receiving (file m) (lent m)) _ _ (all_pass (file m) (lent m) (a m).requires.0 (passed t) room) (value m) (c.fill_rows.ensures ∙ all ∙ cells_left (file m) (lent m) room)
 
-pub read-records-spec : {M : Type 1} → statement M
-read-records-spec =
+pub read_records_spec : {M : Type 1} → statement M
+read_records_spec =
     tie.close
     (tie.spec
     (λ c κs. search rules)

@@ -8,23 +8,23 @@ use Rattle.receive.proofs.Answers.{opening-stop}
 use Rattle.receive.proofs.read_table.Statement.{statement}
 use Rattle.receive.proofs.read_table.Tie as tie
 
-records-requires : tie.Need-read-records-requires
+records-requires : tie.Need-read_records-requires
 records-requires c κs =
-    let made = c.before.before in
-    let j = made.before.before.check-opening.ensures in
-    let g = j.good _ made.made2.given.1 in
-    (ap said_made (sym made.made2.given.1) ∙ j.says, record { is = g.0; sound = g.1 })
+    let made = c in
+    let j = made.check_opening-made.ensures in
+    let g = j.good _ made.in-Good.is in
+    (ap said_made (sym made.in-Good.is) ∙ j.says, record { is = g.0; sound = g.1 })
 
-returns : tie.Need-returns
+returns : tie.Need-returns-in-Bad
 unfolding receiving
 returns c =
-    let m = c.before.before.before in
-    let a = m.before.before.before.args in
-    refuses (receiving a.file.now a.table.now) c.before.made.given.0.0
-    (opening-stop a.file.now a.table.now _ (ap said_made (sym c.before.made.given.1) ∙ m.check-opening.ensures.says))
+    let m = c in
+    let a = m.args in
+    refuses (receiving a.file.now a.table.now) c.in-Bad.refusal
+    (opening-stop a.file.now a.table.now _ (ap said_made (sym c.in-Bad.is) ∙ m.check_opening-made.ensures.says))
 
-pub read-table-spec : {M : Type 1} → statement M
-read-table-spec =
+pub read_table_spec : {M : Type 1} → statement M
+read_table_spec =
     tie.close
     (tie.spec
     (λ c κs. search rules)

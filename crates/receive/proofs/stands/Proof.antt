@@ -7,18 +7,18 @@ use borrow.Author.Tests.{eqb-true}
 use Rattle.receive.proofs.stands.Statement.{statement}
 use Rattle.receive.proofs.stands.Tie as tie
 
-returns-4 : tie.Need-returns-4
+returns-4 : tie.Need-returns
 returns-4 c = λ e.
-    let a = c.before.before.before.before.before.before.before.before in
+    let a = c in
     record {
-      long = sym c.before.before.before.before.word_at.ensures ∙ c.before.before.before.if2.false;
-      kind-is = sym c.before.before.word-at2.ensures ∙ c.before.if3.false;
-      starts = sym c.word-at3.ensures ∙ eqb-true c.word-at3.result a.args.start e;
-      within = omega (arith, c.before.before.before.before.before.before.bytes_left.ensures);
+      long = sym c.word_at.ensures ∙ c.if-word_at-length.false;
+      kind-is = sym c.word_at-2.ensures ∙ c.if-word_at-ne-ROW.false;
+      starts = sym c.word_at-3.ensures ∙ eqb-true c.word_at-3.result a.args.start e;
+      within = omega (arith, c.bytes_left.ensures);
     }
 
-pub stands-spec : {M : Type 1} → statement M
-stands-spec =
+pub stands_spec : {M : Type 1} → statement M
+stands_spec =
     tie.close
     (tie.spec
     (λ c. search rules)

@@ -8,23 +8,23 @@ use Rattle.recount.proofs.Answers.{unsettled, unbounded-out, unbounded-in}
 use Rattle.recount.proofs.check_sequence.Statement.{statement}
 use Rattle.recount.proofs.check_sequence.Tie as tie
 
-returns : tie.Need-returns
-returns c = unsettled _ _ _ c.before.before.new.ensures _ c.enum_told.given.1
+returns : tie.Need-returns-in_default
+returns c = unsettled _ _ _ c.new-made.ensures _ c.in_default.is
 
-returns-2 : tie.Need-returns-2
+returns-2 : tie.Need-returns-in-Refused
 returns-2 c =
-    let n = c.before.before.before.before in
-    unbounded-out _ _ _ n.before.before.before.before.new.ensures _ n.before.before.made.given.1 _
-    (ap told (sym c.before.counted.given.1) ∙ c.before.before.before.recount-sequence.ensures)
+    let n = c in
+    unbounded-out _ _ _ n.new-made.ensures _ n.in-Good.is _
+    (ap told (sym c.in-Refused.is) ∙ c.recount_sequence-counted.ensures)
 
-returns-3 : tie.Need-returns-3
+returns-3 : tie.Need-returns
 returns-3 c =
-    let n = c.before.before.before in
-    unbounded-in _ _ _ n.before.before.before.before.new.ensures _ n.before.before.made.given.1 _
-    (ap told (sym c.enum-told2.given.1) ∙ c.before.before.recount-sequence.ensures)
+    let n = c in
+    unbounded-in _ _ _ n.new-made.ensures _ n.in-Good.is _
+    (ap told (sym c.in_default-counted.is) ∙ c.recount_sequence-counted.ensures)
 
-pub check-sequence-spec : {M : Type 1} → statement M
-check-sequence-spec =
+pub check_sequence_spec : {M : Type 1} → statement M
+check_sequence_spec =
     tie.close
     (tie.spec
     (λ c κs. search rules)
@@ -32,7 +32,7 @@ check-sequence-spec =
     (λ c. search rules)
     returns
     (λ c. search rules)
-    (λ c κs. (c.before.before.before.before.new.ensures.good _ c.before.before.made.given.1).1)
+    (λ c κs. (c.new-made.ensures.good _ c.in-Good.is).1)
     (λ c. search rules)
     returns-2
     (λ c. search rules)

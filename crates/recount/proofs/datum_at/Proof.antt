@@ -9,10 +9,10 @@ use Rattle.recount.proofs.datum_at.Tie as tie
 
 returns : tie.Need-returns
 returns c =
-    let a = c.before.before.args in
-    let f = sfits_of c.before.datum-of-arg.given in
-    let e = c.datum-of.ensures ∙ datum-back (a.sequence.now ! a.k) f in
+    let a = c.args in
+    let f = sfits_of c.datum_of-arg-1.given in
+    let e = c.datum_of.ensures ∙ datum-back (a.sequence.now ! a.k) f in
     (e, omega (arith, e, datum-fits (a.sequence.now ! a.k) f))
 
-pub datum-at-spec : {M : Type 1} → statement M
-datum-at-spec = tie.close (tie.spec (λ c. search rules) (λ c. search rules) (λ c κs. search rules) returns)
+pub datum_at_spec : {M : Type 1} → statement M
+datum_at_spec = tie.close (tie.spec (λ c. search rules) (λ c. search rules) (λ c κs. search rules) returns)

@@ -15,36 +15,37 @@ use Rattle.recount.proofs.look.Statement.{statement}
 use Rattle.recount.proofs.look.Tie as tie
 
 -- past the test on the thickness
-module _ (c : tie.Else2) where
+
+module _ (c : tie.Else-not-is_allowed) where
   abbrev s : tie.Start
   s = c.before.before.before.before
 
   member : allowed s.args.s.members (s.args.above - s.args.below) ≡ true
-  member = sym c.before.is-allowed.ensures ∙ not-false _ c.if2.false
+  member = sym c.is_allowed.ensures ∙ c.if-not-is_allowed.false
 
 -- past the test on the end
-module _ (c : tie.Else3) where
-  abbrev thin : tie.Else2
+module _ (c : tie.Else-s-above) where
+  abbrev thin : tie.Else-not-is_allowed
   thin = c.before.before
 
   ends : (s thin).args.above ≤ (s thin).args.s.height + tmax (s thin).args.s.members + 31
-  ends = omega (arith, c.if3.false, (s thin).pre.0.greatest)
+  ends = omega (arith, c.if-s-above.false, (s thin).requires.0.greatest)
 
 -- past the cell
-module _ (c : tie.After-cell-of) where
-  abbrev lower : tie.After-row-of
+module _ (c : tie.After-cell_of-error) where
+  abbrev lower : tie.After-row_of-row
   lower = c.before.before
 
-  abbrev e : tie.Else3
+  abbrev e : tie.Else-s-above
   e = lower.before.before
 
-  abbrev d : tie.Else2
+  abbrev d : tie.Else-not-is_allowed
   d = thin e
 
-  reads : c.cell-of.result ≡ cell_from (s d).args.s.members (s d).args.table.now (s d).args.below ((s d).args.above - (s d).args.below)
-  reads = c.cell-of.ensures ∙ cell-read _ _ _ _ _ _ (s d).pre.0.greatest lower.row_of.ensures
+  reads : c.cell_of-error.result ≡ cell_from (s d).args.s.members (s d).args.table.now (s d).args.below ((s d).args.above - (s d).args.below)
+  reads = c.cell_of-error.ensures ∙ cell-read _ _ _ _ _ _ (s d).requires.0.greatest lower.row_of-row.ensures
 
-returns-5 : tie.Need-returns-5
+returns-5 : tie.Need-returns
 returns-5 c =
     let k = c.before in
     record {
@@ -62,15 +63,15 @@ look_spec =
     (λ c. out-thickness _ _ _ _ _ _ (allowed-under _ _ (omega arith)))
     (λ c. search rules)
     (λ c κs. search rules)
-    (λ c. out-thickness _ _ _ _ _ _ (sym c.before.is-allowed.ensures ∙ not-true _ c.if2.true))
-    (λ c. let s = c.before.before.before.before.before in omega (arith, s.requires.0.high, s.requires.0.thick))
-    (λ c. let s = c.before.before.before.before.before in omega (arith, s.requires.0.high, s.requires.0.thick))
-    (λ c. let b = c.before.before in out-end _ _ _ _ _ _ (member b) (omega (arith, c.if3.true, (s b).requires.0.greatest)))
-    (λ c. let b = thin c.before in omega (arith, (s b).pre.0.thick))
-    (λ c. let b = thin c.before in omega (arith, (s b).pre.1, (s b).pre.0.high, (s b).pre.0.thick))
+    (λ c. out-thickness _ _ _ _ _ _ (sym c.is_allowed.ensures ∙ c.if-not-is_allowed.true))
+    (λ c. let s = c in omega (arith, s.requires.0.high, s.requires.0.thick))
+    (λ c. let s = c in omega (arith, s.requires.0.high, s.requires.0.thick))
+    (λ c. let b = c.before.before in out-end _ _ _ _ _ _ (member b) (omega (arith, c.if-s-above.true, (s b).requires.0.greatest)))
+    (λ c. let b = thin c.before in omega (arith, (s b).requires.0.thick))
+    (λ c. let b = thin c.before in omega (arith, (s b).requires.1, (s b).requires.0.high, (s b).requires.0.thick))
     (λ c κs. search rules)
-    (λ c. let b = thin c.before.before.before in omega (arith, (s b).pre.0.thick))
-    (λ c. let b = thin c.before.before.before in omega (arith, c.before.row_of.ensures, (s b).pre.1, (s b).pre.0.high, (s b).pre.0.thick))
+    (λ c. let b = thin c.before.before.before in omega (arith, (s b).requires.0.thick))
+    (λ c. let b = thin c.before.before.before in omega (arith, c.row_of-row.ensures, (s b).requires.1, (s b).requires.0.high, (s b).requires.0.thick))
     (λ c. let b = thin c.before.before.before in omega (arith, allowed-to _ _ (member b)))
     (λ c κs. search rules)
     (λ c. let k = c.before in out-bound _ _ _ _ _ _ (member (d k)) (ends (e k)) (omega (arith, reads k)))

@@ -4,21 +4,21 @@ use Rattle.recount.proofs.Answers.{bad, good}
 use Rattle.recount.proofs.recount.Statement.{statement}
 use Rattle.recount.proofs.recount.Tie as tie
 
-returns : tie.Need-returns
-returns c = bad _ _ _ c.before.before.before.check-table.ensures c.before.made.given.0.0 c.before.made.given.1
+returns : tie.Need-returns-in-Bad
+returns c = bad _ _ _ c.check_table-made.ensures c.in-Bad.refusal c.in-Bad.is
 
-returns-2 : tie.Need-returns-2
+returns-2 : tie.Need-returns-in-Good
 returns-2 c =
-    let m = c.before.before in
-    good _ _ _ m.before.before.check-table.ensures _ m.made2.given.1 _ c.recount-sequence.ensures
+    let m = c in
+    good _ _ _ m.check_table-made.ensures _ m.in-Good.is _ c.recount_sequence.ensures
 
-pub recount-spec : {M : Type 1} → statement M
-recount-spec =
+pub recount_spec : {M : Type 1} → statement M
+recount_spec =
     tie.close
     (tie.spec
     (λ c κs. search rules)
     (λ c. search rules)
     (λ c. search rules)
-    (λ c κs. (c.before.before.before.check-table.ensures.good _ c.before.made2.given.1).1)
+    (λ c κs. (c.check_table-made.ensures.good _ c.in-Good.is).1)
     returns
     returns-2)

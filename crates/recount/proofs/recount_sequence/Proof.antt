@@ -16,38 +16,38 @@ use Rattle.recount.proofs.Answers.{too_few, out-start, out_first}
 use Rattle.recount.proofs.recount_sequence.Statement.{statement}
 use Rattle.recount.proofs.recount_sequence.Tie as tie
 
-returns : tie.Need-returns
-returns c = ap (λ (r : Refusal). told (Refused r)) c.refusal-at.ensures ∙ too_few _ _ _ _ _ (omega arith)
+returns : tie.Need-returns-then-sequence-lt2
+returns c = ap (λ (r : Refusal). told (Refused r)) c.refusal_at.ensures ∙ too_few _ _ _ _ _ (omega arith)
 
 -- whether the first is a start
-start_is : (c : tie.After-is-start) → c.is-start.result ≡ starts (tmax c.before.before.before.before.args.s.members) (datum (c.before.before.before.before.args.sequence.now ! 0))
-start_is c = let s = c.before.before.before.before in c.is-start.ensures ∙ ap₂ starts s.requires.greatest c.before.datum-at.ensures.0
+start_is : (c : tie.After-is_start) → c.is_start.result ≡ starts (tmax c.args.s.members) (datum (c.args.sequence.now ! 0))
+start_is c = let s = c in c.is_start.ensures ∙ ap₂ starts s.requires.greatest c.datum_at-start.ensures.0
 
-returns-2 : tie.Need-returns-2
+returns-2 : tie.Need-returns-then-not-is_start
 returns-2 c =
     let i = c.before.before in
-    ap (λ (r : Refusal). told (Refused r)) c.refusal-at2.ensures ∙ out-start _ _ _ _ _ (omega arith) (sym (start_is i) ∙ not-true _ c.before.if2.true)
+    ap (λ (r : Refusal). told (Refused r)) c.refusal_at-then-not-is_start.ensures ∙ out-start _ _ _ _ _ (omega arith) (sym (start_is i) ∙ c.if-not-is_start.true)
 
 -- z1, past the start
-module _ (c : tie.After-datum-at2) where
-  abbrev i : tie.After-is-start
+module _ (c : tie.After-datum_at) where
+  abbrev i : tie.After-is_start
   i = c.before.before
 
-  start-in : starts (tmax i.before.before.before.before.args.s.members) (datum (i.before.before.before.before.args.sequence.now ! 0)) ≡ true
-  start-in = sym (start_is i) ∙ not-false _ c.before.if2.false
+  start-in : starts (tmax i.args.s.members) (datum (i.args.sequence.now ! 0)) ≡ true
+  start-in = sym (start_is i) ∙ c.if-not-is_start.false
 
-returns-3 : tie.Need-returns-3
+returns-3 : tie.Need-returns-then-datum_at-le32
 returns-3 c =
     let d = c.before.before in
-    ap (λ (r : Refusal). told (Refused r)) c.refusal-at3.ensures ∙ out_first _ _ _ _ _ (omega arith) (start-in d) (omega (arith, d.datum-at2.ensures.0))
+    ap (λ (r : Refusal). told (Refused r)) c.refusal_at-then-datum_at-le32.ensures ∙ out_first _ _ _ _ _ (omega arith) (start-in d) (omega (arith, d.datum_at.ensures.0))
 
-recount-layers-requires : tie.Need-recount-layers-requires
+recount-layers-requires : tie.Need-recount_layers-requires
 recount-layers-requires c κs =
     let d = c.before in
-    ((i d).before.before.before.before.requires, record { layered = omega arith; starts-in = start-in d; first_above = omega (arith, d.datum-at2.ensures.0) })
+    ((i d).requires, record { layered = omega arith; starts-in = start-in d; first_above = omega (arith, d.datum_at.ensures.0) })
 
-pub recount-sequence-spec : {M : Type 1} → statement M
-recount-sequence-spec =
+pub recount_sequence_spec : {M : Type 1} → statement M
+recount_sequence_spec =
     tie.close
     (tie.spec
     (λ c κs. search rules)

@@ -8,14 +8,14 @@ use Rattle.send.proofs.size_of.Tie as tie
 
 returns : tie.Need-returns
 unfolding row_place row_length
-returns c = let a = c.before.before in rw (← a.requires.greatest) (omega arith)
+returns c = let a = c in rw (← a.requires.greatest) (omega arith)
 
-pub size-of-spec : {M : Type 1} → statement M
-size-of-spec =
+pub size_of_spec : {M : Type 1} → statement M
+size_of_spec =
     tie.close
     (tie.spec
-    (λ c. omega (arith, c.before.requires.thick))
-    (λ c. omega (arith, c.before.requires.thick))
-    (λ c. let k = c.before.before.requires in omega (arith, k.cells_are, k.few-cells, few-rows k))
-    (λ c. let k = c.before.before.requires in omega (arith, k.cells_are, k.few-cells, few-rows k))
+    (λ c. omega (arith, c.requires.thick))
+    (λ c. omega (arith, c.requires.thick))
+    (λ c. let k = c.requires in omega (arith, k.cells_are, k.few-cells, few-rows k))
+    (λ c. let k = c.requires in omega (arith, k.cells_are, k.few-cells, few-rows k))
     returns)

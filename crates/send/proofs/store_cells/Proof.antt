@@ -11,34 +11,34 @@ use Rattle.send.proofs.Records.{cell-stored}
 use Rattle.send.proofs.store_cells.Statement.{statement}
 use Rattle.send.proofs.store_cells.Tie as tie
 
-abbrev invariant-loop : tie.invariant-loop
+abbrev invariant-loop : tie.invariant-loop-i
 invariant-loop out₀ at cells next₀ i₀ out next i = (i ≤ length cells) × (next ≡ at + 4 * i) × (length out ≡ length out₀) × (out ≡ sets out₀ at (quad_bytes_of (take i cells)))
 
-abbrev decreases-loop : tie.decreases-loop
+abbrev decreases-loop : tie.decreases-loop-i
 decreases-loop out₀ at cells next₀ i₀ out next i = length cells - i
 
-loop-holds : tie.Need-loop-init invariant-loop decreases-loop
+loop-holds : tie.Need-loop-i-init invariant-loop decreases-loop
 unfolding quad_bytes_of
 loop-holds c = (omega arith, omega arith, refl, refl)
 
-loop-again : tie.Need-loop-preserved invariant-loop decreases-loop
+loop-again : tie.Need-loop-i-preserved invariant-loop decreases-loop
 loop-again c =
-    let l = c.before.before.loop in
-    let a = c.before.before.before.args in (
+    let l = c.loop-i in
+    let a = c.args in (
       omega arith,
       omega (arith, l.invariant.1),
       simp length-set l.invariant.2,
-      rw (l.invariant.3, l.invariant.1) (cell-stored a.out.now a.cells.now a.at l.i (omega arith) (omega (arith, c.shared-slice-known.given l.i))),
+      rw (l.invariant.3, l.invariant.1) (cell-stored a.out.now a.cells.now a.at l.i (omega arith) (omega (arith, c.shared_slice_known-1.given l.i))),
     )
 
 returns : tie.Need-returns invariant-loop decreases-loop
 returns c =
-    let l = c.before.loop in
-    let a = c.before.before.args in
+    let l = c.loop-i in
+    let a = c.args in
     l.invariant.3 ∙ ap (λ (ns : List ℕ). sets a.out.now a.at (quad_bytes_of ns)) (take_all l.i a.cells.now (omega arith))
 
-pub store-cells-spec : {M : Type 1} → statement M
-store-cells-spec =
+pub store_cells_spec : {M : Type 1} → statement M
+store_cells_spec =
     tie.close
     (tie.spec
     invariant-loop
@@ -50,16 +50,16 @@ store-cells-spec =
     (λ c. search rules)
     (λ c. omega arith)
     (λ c. omega arith)
-    (λ c. simp length-set (omega (arith, c.before.before.loop.invariant.2)))
+    (λ c. simp length-set (omega (arith, c.loop-i.invariant.2)))
     (λ c. omega arith)
     (λ c. omega arith)
-    (λ c. simp length-set (omega (arith, c.before.before.loop.invariant.2)))
-    (λ c. omega (arith, c.shared-slice-known.given c.before.before.loop.i))
+    (λ c. simp length-set (omega (arith, c.loop-i.invariant.2)))
+    (λ c. omega (arith, c.shared_slice_known-1.given c.loop-i.i))
     (λ c. omega arith)
-    (λ c. simp length-set (omega (arith, c.before.before.loop.invariant.2)))
+    (λ c. simp length-set (omega (arith, c.loop-i.invariant.2)))
     (λ c. omega arith)
     (λ c. search rules)
     (λ c. search rules)
     loop-again
-    (λ c. c.before.loop.invariant.2)
+    (λ c. c.loop-i.invariant.2)
     returns)

@@ -20,45 +20,45 @@ use Rattle.send.proofs.Answers.{output-stop, all_pass, file-left}
 use Rattle.send.proofs.write_checked.Statement.{statement}
 use Rattle.send.proofs.write_checked.Tie as tie
 
-module _ (m : tie.After-size-of) where
+module _ (m : tie.After-size_of-size) where
   abbrev a : tie.Start
   a = m.before.before.before
 
   abbrev held : Held
   held = held_in a.args.head a.args.table.now
 
-  size_is : m.type_size.result ≡ file_size a.args.head
-  size_is = m.type_size.ensures ∙ sym (end-place a.pre.0)
+  size_is : m.size_of-size.result ≡ file_size a.args.head
+  size_is = m.size_of-size.ensures ∙ sym (end-place a.requires.0)
 
-  value : m.type_size.result ≡ (sending held a.args.out.now).value
+  value : m.size_of-size.result ≡ (sending held a.args.out.now).value
   unfolding sending
   value = size_is
 
   in_order : InOrder held a.args.s
-  in_order = table-passed held a.pre.0 a.pre.1
+  in_order = table-passed held a.requires.0 a.requires.1
 
-returns : tie.Need-returns
+returns : tie.Need-returns-then-out-size
 unfolding sending
 returns c =
     let m = c.before.before in
-    refuses (sending (held m) (a m).args.out.now) c.refusal-at.result
-    (ap (λ (r : Refusal). some (numbered r)) c.refusal-at.ensures ∙ output-stop (held m) (a m).args.out.now (a m).requires.1 (omega (arith, size_is m)))
+    refuses (sending (held m) (a m).args.out.now) c.refusal_at.result
+    (ap (λ (r : Refusal). some (numbered r)) c.refusal_at.ensures ∙ output-stop (held m) (a m).args.out.now (a m).requires.1 (omega (arith, size_is m)))
 
-file-requires : tie.Need-write-file-requires
+file-requires : tie.Need-write_file-requires
 file-requires c κs =
     let m = c.before.before in
     ((a m).requires.0, ((in_order m).room, (size_is m, omega arith)))
 
-returns-2 : tie.Need-returns-2
+returns-2 : tie.Need-returns
 returns-2 c =
     let m = c.before.before.before.before.before in
     let g = (a m).args in
     let room : file_size g.head ≤ length g.out.now = omega (arith, size_is m) in
     works (sending (held m) g.out.now) _ _ (all_pass (held m) g.out.now (a m).requires.1 room) (value m)
-    (c.before.before.write-file.ensures ∙ file-left (held m) g.out.now (omega (arith, (in_order m).room, cells-for (a m).requires.0)) room)
+    (c.write_file.ensures ∙ file-left (held m) g.out.now (omega (arith, (in_order m).room, cells-for (a m).requires.0)) room)
 
-pub write-checked-spec : {M : Type 1} → statement M
-write-checked-spec =
+pub write_checked_spec : {M : Type 1} → statement M
+write_checked_spec =
     tie.close
     (tie.spec
     (λ c κs. search rules)

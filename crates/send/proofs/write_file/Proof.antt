@@ -18,46 +18,47 @@ use Rattle.send.proofs.write_file.Statement.{statement}
 use Rattle.send.proofs.write_file.Tie as tie
 
 -- what is known from the start
+
 module _ (a : tie.Start) where
   abbrev rows : List ℕ
   rows = row_records a.args.s.members a.args.s.rows 0 a.args.table.now
 
   -- the end stands behind the rows
   room : row_place a.args.s.members a.args.s.rows + 6 ≤ length a.args.out.now
-  room = omega (arith, end-place a.pre.0, a.pre.1.1.0, a.pre.1.1.1)
+  room = omega (arith, end-place a.requires.0, a.requires.1.1.0, a.requires.1.1.1)
 
   rows_long : 14 + length rows ≡ row_place a.args.s.members a.args.s.rows
   unfolding row_place row_length
   rows_long =
       let T = a.args.s.members in
       let width : 4 + (2 + 4 * tmax T) ≡ 6 + 4 * tmax T = omega arith in
-      let whole : a.args.s.rows * tmax T ≤ length a.args.table.now = rw (← a.pre.0.sound.greatest) (omega (arith, a.pre.0.sound.cells_are, a.pre.1.0)) in
+      let whole : a.args.s.rows * tmax T ≤ length a.args.table.now = rw (← a.requires.0.sound.greatest) (omega (arith, a.requires.0.sound.cells_are, a.requires.1.0)) in
       rw width (omega (arith, length-rows T a.args.s.rows 0 a.args.table.now whole))
 
-head-requires : tie.Need-write-head-requires
+head-requires : tie.Need-write_head-requires
 unfolding row_place
 head-requires c κs =
     let a = c.before.before.before in
     (omega (arith, height-for a.requires.0, a.requires.0.sound.high), omega (arith, room a))
 
 -- past the head
-module _ (m : tie.After-write-head) where
+module _ (m : tie.After-write_head) where
   abbrev a : tie.Start
   a = m.before.before.before.before
 
-  first-long : length m.write-head.last.0 ≡ length a.args.out.now
-  first-long = ap (λ (l : List ℕ). length l) m.write-head.ensures ∙ length-sets a.args.out.now 0 (head_record a.args.head)
+  first-long : length m.write_head.new.out ≡ length a.args.out.now
+  first-long = ap (λ (l : List ℕ). length l) m.write_head.ensures ∙ length-sets a.args.out.now 0 (head_record a.args.head)
 
-rows-requires : tie.Need-write-rows-requires
+rows-requires : tie.Need-write_rows-requires
 rows-requires c κs =
     let m = c.before.before.before in
     ((a m).requires.0.sound, ((a m).requires.1.0, omega (arith, first-long m, room (a m))))
 
-end-requires : tie.Need-write-end-requires
+end-requires : tie.Need-write_end-requires
 end-requires c κs =
     let second = c.before.before.before in
     let m = second.before.before.before.before in
-    let long = ap (λ (l : List ℕ). length l) second.write-rows.ensures ∙ length-sets m.write-head.new.0 14 (rows (a m)) in
+    let long = ap (λ (l : List ℕ). length l) second.write_rows.ensures ∙ length-sets m.write_head.new.out 14 (rows (a m)) in
     (omega (arith, few-rows (a m).requires.0.sound), omega (arith, long, first-long m, end-place (a m).requires.0, (a m).requires.1.1.0, (a m).requires.1.1.1))
 
 returns : tie.Need-returns
@@ -70,18 +71,18 @@ returns c =
     let out = (a m).args.out.now in
     let count = (a m).args.s.rows in
     let place : (a m).args.size - 6 ≡ 14 + length (rows (a m)) = omega (arith, rows_long (a m), end-place (a m).requires.0, (a m).requires.1.1.0) in
-    third.write-end.ensures
-    ∙ stored-then m.write-head.new.0 second.write-rows.new.0 14 ((a m).args.size - 6) (rows (a m)) (end_record count) second.write-rows.ensures place
-    ∙ stored-then out m.write-head.new.0 0 14 (head_record head) (rows (a m) ++ end_record count) m.write-head.ensures (omega (arith, length-head head))
+    third.write_end.ensures
+    ∙ stored-then m.write_head.new.out second.write_rows.new.out 14 ((a m).args.size - 6) (rows (a m)) (end_record count) second.write_rows.ensures place
+    ∙ stored-then out m.write_head.new.out 0 14 (head_record head) (rows (a m) ++ end_record count) m.write_head.ensures (omega (arith, length-head head))
     ∙ (λ i. sets out 0 (head_record head ++ (row_records (members-for (a m).requires.0 i) (rows_are (a m).requires.0 i) 0 (a m).args.table.now ++ end_record (rows_are (a m).requires.0 i))))
 
-pub write-file-spec : {M : Type 1} → statement M
-write-file-spec =
+pub write_file_spec : {M : Type 1} → statement M
+write_file_spec =
     tie.close
     (tie.spec
     head-requires
     rows-requires
-    (λ c. let a = c.before.before.before.before.before.before.before.before.before.before.before in omega (arith, end-place a.requires.0, a.requires.1.1.0))
+    (λ c. let a = c in omega (arith, end-place a.requires.0, a.requires.1.1.0))
     end-requires
     (λ c. search rules)
     returns)

@@ -9,12 +9,12 @@ returns : tie.Need-returns
 returns c =
     let second = c.before.before in
     let first = second.before.before.before.before in
-    let a = first.before.before.before.before.before in
+    let a = first in
     second.store_cells.ensures
-    ∙ row_laid a.args.start a.args.row.now a.args.out.now first.write-numbers.new.0 a.args.at a.requires.1 first.write-numbers.ensures
+    ∙ row_laid a.args.start a.args.row.now a.args.out.now first.write_numbers.new.out a.args.at a.requires.1 first.write_numbers.ensures
 
-pub write-row-spec : {M : Type 1} → statement M
-write-row-spec =
+pub write_row_spec : {M : Type 1} → statement M
+write_row_spec =
     tie.close
     (tie.spec
     (λ c. search rules)

@@ -9,24 +9,24 @@ use Rattle.send.proofs.Answers.{table-stop}
 use Rattle.send.proofs.write_table.Statement.{statement}
 use Rattle.send.proofs.write_table.Tie as tie
 
-checked-requires : tie.Need-write-checked-requires
+checked-requires : tie.Need-write_checked-requires
 checked-requires c κs =
-    let made = c.before.before in
-    let j = made.before.before.check-table.ensures in
-    let g = j.good _ made.made2.given.1 in
-    (record { is = g.0; sound = g.1 }, ap said_made (sym made.made2.given.1) ∙ j.says)
+    let made = c in
+    let j = made.check_table-made.ensures in
+    let g = j.good _ made.in-Good.is in
+    (record { is = g.0; sound = g.1 }, ap said_made (sym made.in-Good.is) ∙ j.says)
 
-returns : tie.Need-returns
+returns : tie.Need-returns-in-Bad
 unfolding sending
 returns c =
-    let m = c.before.before.before in
-    let a = m.before.before.before.args in
+    let m = c in
+    let a = m.args in
     let held : Held = held_in a.head a.table.now in
-    refuses (sending held a.out.now) c.before.made.given.0.0
-    (table-stop held a.out.now _ (ap said_made (sym c.before.made.given.1) ∙ m.check-table.ensures.says))
+    refuses (sending held a.out.now) c.in-Bad.refusal
+    (table-stop held a.out.now _ (ap said_made (sym c.in-Bad.is) ∙ m.check_table-made.ensures.says))
 
-pub write-table-spec : {M : Type 1} → statement M
-write-table-spec =
+pub write_table_spec : {M : Type 1} → statement M
+write_table_spec =
     tie.close
     (tie.spec
     (λ c κs. search rules)

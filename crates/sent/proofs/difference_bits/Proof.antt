@@ -21,8 +21,8 @@ bits_are a (suc b) = go (ltb a (suc b)) refl
     go true e = let l = ltb-true a (suc b) e in omega arith
     go false e = let l = ltb-false a (suc b) e in omega arith
 
-pub difference-bits-spec : {M : Type 1} → statement M
-difference-bits-spec =
+pub difference_bits_spec : {M : Type 1} → statement M
+difference_bits_spec =
     tie.close
     (tie.spec
     (λ c. search rules)

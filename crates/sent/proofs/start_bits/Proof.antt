@@ -8,15 +8,15 @@ use Rattle.sent.specs.Start.{twos16}
 use Rattle.sent.proofs.start_bits.Statement.{statement}
 use Rattle.sent.proofs.start_bits.Tie as tie
 
-pub start-bits-spec : {M : Type 1} → statement M
-start-bits-spec =
+pub start_bits_spec : {M : Type 1} → statement M
+start_bits_spec =
     tie.close
     (tie.spec
     (λ c κs. search rules)
     (λ c.
-    let a = c.before.before.args in
+    let a = c.args in
     let none : 0 ≡ a.greatest - 1 = omega arith in
-    c.difference-bits.ensures ∙ ap (λ (n : ℕ). twos16 (pos a.row -ℤ pos n)) none)
+    c.difference_bits.ensures ∙ ap (λ (n : ℕ). twos16 (pos a.row -ℤ pos n)) none)
     (λ c. search rules)
     (λ c κs. search rules)
     (λ c. search rules))

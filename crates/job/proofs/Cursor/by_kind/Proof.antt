@@ -10,6 +10,7 @@ use Rattle.job.specs.declared.State.{State}
 use Rattle.job.specs.declared.Kind.{Kind}
 use Rattle.job.specs.declared.Kind.TheVariants as kind
 use Rattle.job.proofs.Reading.{body-passed}
+use Rattle.std.proofs.lemmas.Bool.{false≢true}
 use Rattle.job.proofs.Cursor.by_kind.Statement.{statement}
 use Rattle.job.proofs.Cursor.by_kind.Tie as tie
 
@@ -22,28 +23,28 @@ module _ (s : List ℕ) (st : State) (at : ℕ) (k j : Kind) (e : k ≡ j) where
 
 -- a kind that is refused is allowed nowhere
 never : (c : tie.Start) → c.args.kind ≡ kind.Refused → ⊥
-never c e = let a = (ready _ _ _ _ kind.Refused e c.requires).allows in let z : ◌≡◌ {A = ℕ} 0 1 = cc in omega arith
+never c e = false≢true (ready c.args.input.now c.args.state c.args.self.at _ kind.Refused e c.requires).allows
 
-returns-4 : tie.Need-returns-4
+returns-4 : tie.Need-returns-in-Remark
 unfolding body_checks
-returns-4 c = read_as _ _ _ _ kind.Remark c.before.enum-told4.given.1 _ (c.passed.ensures ∙ body-passed _ _ _ kind.Remark refl)
+returns-4 c = read_as _ _ _ _ kind.Remark c.in-Remark.is _ (c.passed.ensures ∙ body-passed _ _ _ kind.Remark refl)
 
-pub by-kind-spec : {M : Type 1} → statement M
-by-kind-spec =
+pub by_kind_spec : {M : Type 1} → statement M
+by_kind_spec =
     tie.close
     (tie.spec
     (λ c. search rules)
-    (λ c κs. ready _ _ _ _ _ c.enum_told.given.1 c.before.before.before.requires)
+    (λ c κs. ready c.args.input.now c.args.state c.args.self.at _ _ c.in-Settings.is c.requires)
     (λ c. search rules)
-    (λ c κs. ready _ _ _ _ _ c.enum-told2.given.1 c.before.before.before.requires)
+    (λ c κs. ready c.args.input.now c.args.state c.args.self.at _ _ c.in-Column.is c.requires)
     (λ c. search rules)
-    (λ c κs. ready _ _ _ _ _ c.enum-told3.given.1 c.before.before.before.requires)
-    (λ c. search rules)
-    (λ c κs. search rules)
+    (λ c κs. ready c.args.input.now c.args.state c.args.self.at _ _ c.in-End.is c.requires)
     (λ c. search rules)
     (λ c κs. search rules)
-    (λ c. read_as _ _ _ _ _ c.before.enum_told.given.1 _ c.settings.ensures)
-    (λ c. read_as _ _ _ _ _ c.before.enum-told2.given.1 _ c.column.ensures)
-    (λ c. read_as _ _ _ _ _ c.before.enum-told3.given.1 _ c.ending.ensures)
+    (λ c. search rules)
+    (λ c κs. search rules)
+    (λ c. read_as _ _ _ _ _ c.in-Settings.is _ c.settings.ensures)
+    (λ c. read_as _ _ _ _ _ c.in-Column.is _ c.column.ensures)
+    (λ c. read_as _ _ _ _ _ c.in-End.is _ c.ending.ensures)
     returns-4
-    (λ c. absurd (never c.before.before.before.before c.before.enum-told5.given.1)))
+    (λ c. absurd (never c.before.before.before c.in-Refused.is)))

@@ -19,40 +19,41 @@ use Rattle.job.proofs.Cursor.column.Statement.{statement}
 use Rattle.job.proofs.Cursor.column.Tie as tie
 
 -- what was said of the boundaries by their length is said of the record's
+
 said : (r x : Checked) (height at len : ℕ) (s : List ℕ) → len ≡ length_at s at → r ≡ x → said_by r ≡ first (column_checks height (words s (body_at at) (len / 2)))
     → first (column_checks height (boundaries_at s at)) ≡ said_by x
 unfolding boundaries_at
 said r x height at len s e q h = sym (ap (λ (n : ℕ). first (column_checks height (words s (body_at at) (n / 2)))) e) ∙ sym h ∙ ap said_by q
 
-returns : tie.Need-returns
-returns c = c.faulted.ensures ∙ body_refused _ _ _ kind.Column 7 (full _ _ _ (sym c.before.before.is-full.ensures ∙ c.before.if1.true))
+returns : tie.Need-returns-then-is_full
+returns c = c.faulted.ensures ∙ body_refused _ _ _ kind.Column 7 (full _ _ _ (sym c.is_full.ensures ∙ c.if-is_full.true))
 
-returns-2 : tie.Need-returns-2
+returns-2 : tie.Need-returns-then-count-gt-MOST_BOUNDARIES
 returns-2 c =
-    let d = c.before.before in
-    c.faulted2.ensures
+    let d = c in
+    c.faulted-then-count-gt-MOST_BOUNDARIES.ensures
     ∙ body_refused _ _ _ kind.Column 4
-    (column-refused _ _ _ (sym d.before.is-full.ensures ∙ d.if1.false) _ (too_long _ _ _ (subst (λ (n : ℕ). most_boundaries < n / 2) d.before.before.before.length_at.ensures c.before.if2.true)))
+    (column-refused _ _ _ (sym d.is_full.ensures ∙ d.if-is_full.false) _ (too_long _ _ _ (subst (λ (n : ℕ). most_boundaries < n / 2) d.length_at-count.ensures c.if-count-gt-MOST_BOUNDARIES.true)))
 
-returns-3 : tie.Need-returns-3
+returns-3 : tie.Need-returns-in-Refused
 returns-3 c =
-    let o = c.before.before in
-    let d = o.before.before.before.before.before in
-    c.faulted3.ensures
+    let o = c in
+    let d = o in
+    c.faulted-in-Refused.ensures
     ∙ body_refused _ _ _ kind.Column _
-    (column-refused _ _ _ (sym d.before.is-full.ensures ∙ d.if1.false) _ (said _ _ _ _ _ _ d.before.before.before.length_at.ensures o.order.given.1 o.before.before.check-at.ensures))
+    (column-refused _ _ _ (sym d.is_full.ensures ∙ d.if-is_full.false) _ (said _ _ _ _ _ _ d.length_at-count.ensures o.in-Refused.is o.check_at-order.ensures))
 
-returns-4 : tie.Need-returns-4
+returns-4 : tie.Need-returns
 returns-4 c =
-    let o = c.before.before in
-    let d = o.before.before.before.before.before in
-    let l = d.before.before.before.length_at.ensures in
+    let o = c in
+    let d = o in
+    let l = d.length_at-count.ensures in
     c.passed.ensures
-    ∙ rw (c.before.counted.ensures, l)
-    (body-passed _ _ _ kind.Column (column-passed _ _ _ (sym d.before.is-full.ensures ∙ d.if1.false) (said _ _ _ _ _ _ l o.enum_told.given.1 o.before.before.check-at.ensures)))
+    ∙ rw (c.counted.ensures, l)
+    (body-passed _ _ _ kind.Column (column-passed _ _ _ (sym d.is_full.ensures ∙ d.if-is_full.false) (said _ _ _ _ _ _ l o.in_default.is o.check_at-order.ensures)))
 
-pub column-spec : {M : Type 1} → statement M
-column-spec =
+pub column_spec : {M : Type 1} → statement M
+column_spec =
     tie.close
     (tie.spec
     (λ c. search rules)
@@ -68,6 +69,6 @@ column-spec =
     (λ c κs. search rules)
     returns-3
     (λ c. search rules)
-    (λ c κs. let d = c.before.before.before.before.before in sym d.before.is-full.ensures ∙ d.if1.false)
+    (λ c κs. let d = c in sym d.is_full.ensures ∙ d.if-is_full.false)
     (λ c κs. search rules)
     returns-4)

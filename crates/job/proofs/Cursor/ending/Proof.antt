@@ -7,18 +7,18 @@ use Rattle.job.proofs.Bodies.{unequal, equal}
 use Rattle.job.proofs.Cursor.ending.Statement.{statement}
 use Rattle.job.proofs.Cursor.ending.Tie as tie
 
-returns : tie.Need-returns
+returns : tie.Need-returns-then-columns-head
 returns c =
     c.faulted.ensures
-    ∙ body_refused _ _ _ kind.End _ (unequal _ _ _ (λ e. c.before.if1.true (c.before.before.before.before.quad.ensures ∙ e)))
+    ∙ body_refused _ _ _ kind.End _ (unequal _ _ _ (λ e. c.if-columns-head.true (c.quad-columns.ensures ∙ e)))
 
-returns-2 : tie.Need-returns-2
+returns-2 : tie.Need-returns
 returns-2 c =
-    let q = c.before.before.before.before.before.quad.ensures in
-    c.passed.ensures ∙ rw (c.before.finish.ensures, q) (body-passed _ _ _ kind.End (equal _ _ _ (sym q ∙ c.before.before.if1.false)))
+    let q = c.quad-columns.ensures in
+    c.passed.ensures ∙ rw (c.finish.ensures, q) (body-passed _ _ _ kind.End (equal _ _ _ (sym q ∙ c.if-columns-head.false)))
 
-pub ending-spec : {M : Type 1} → statement M
-ending-spec =
+pub ending_spec : {M : Type 1} → statement M
+ending_spec =
     tie.close
     (tie.spec
     (λ c. search rules)

@@ -9,19 +9,19 @@ use Rattle.job.proofs.Reading.{tail-refused}
 use Rattle.job.proofs.Cursor.past_end.Statement.{statement}
 use Rattle.job.proofs.Cursor.past_end.Tie as tie
 
-returns : tie.Need-returns
+returns : tie.Need-returns-in-Refused
 returns c =
-    let d = c.before.before.before.before in
+    let d = c in
     c.faulted.ensures
-    ∙ tail-refused d.before.before.args.input.now _ _ c.before.before.rest.given.0.0 (ap said_by (sym c.before.before.rest.given.1) ∙ d.check-tail.ensures)
+    ∙ tail-refused d.args.input.now _ _ c.in-Refused.refusal (ap said_by (sym c.in-Refused.is) ∙ d.check_tail-rest.ensures)
 
-returns-2 : tie.Need-returns-2
+returns-2 : tie.Need-returns
 returns-2 c =
-    let d = c.before.before.before in
-    let a = d.before.before.args in
-    ap (λ (o : Option Numbered). moved a.state a.self.at (told_by o (again a.state a.self.at))) (ap said_by (sym c.before.enum_told.given.1) ∙ d.check-tail.ensures)
+    let d = c in
+    let a = d.args in
+    ap (λ (o : Option Numbered). moved a.state a.self.at (told_by o (again a.state a.self.at))) (ap said_by (sym c.in_default.is) ∙ d.check_tail-rest.ensures)
 
-pub past-end-spec : {M : Type 1} → statement M
-past-end-spec =
+pub past_end_spec : {M : Type 1} → statement M
+past_end_spec =
     tie.close
     (tie.spec (λ c κs. search rules) (λ c. search rules) (λ c κs. search rules) returns (λ c. search rules) returns-2)

@@ -19,41 +19,42 @@ use Rattle.job.proofs.Cursor.read.Statement.{statement}
 use Rattle.job.proofs.Cursor.read.Tie as tie
 
 -- the frame was judged by whether the kind is allowed and its length is right
+
 judged : (s : List ℕ) (st : State) (at : ℕ) (k : Kind) (len : ℕ) (allowed right : Bool) (r x : Checked) → allowed ≡ allowed_here st k → len ≡ length_at s at → right ≡ fits k len
     → said_by r ≡ first (frame_checks s at allowed right) → r ≡ x → said_by x ≡ first (frame_checks s at (allowed_here st k) (fits k (length_at s at)))
 judged s st at k len allowed right r x a l f e q = rw (← a, ← l, ← f) (ap said_by (sym q) ∙ e)
 
 -- past the frame's checks: what they said of the record, and which kind it is
-module _ (c : tie.After-check-frame) where
+module _ (c : tie.After-check_frame-frame) where
   abbrev b : tie.Start
   b = c.before.before.before.before.before.before.before.before
 
   abbrev k : Kind
-  k = c.before.before.before.before.of.result
+  k = c.of-kind.result
 
-  frame : (x : Checked) → c.check-frame.result ≡ x → said_by x ≡ first (frame_checks b.args.input.now b.args.self.at (allowed_here b.args.state k) (fits k (length_at b.args.input.now b.args.self.at)))
+  frame : (x : Checked) → c.check_frame-frame.result ≡ x → said_by x ≡ first (frame_checks b.args.input.now b.args.self.at (allowed_here b.args.state k) (fits k (length_at b.args.input.now b.args.self.at)))
   frame x e =
-      judged b.args.input.now b.args.state b.args.self.at k _ _ _ _ x c.before.before.before.is-allowed.ensures c.before.before.length_at.ensures c.before.fits2.ensures c.check-frame.ensures e
+      judged b.args.input.now b.args.state b.args.self.at k _ _ _ _ x c.is_allowed-allowed.ensures c.length_at.ensures c.fits-right.ensures c.check_frame-frame.ensures e
 
   kind-is : k ≡ kind_of (kind_at b.args.input.now b.args.self.at)
-  kind-is = c.before.before.before.before.of.ensures ∙ ap kind_of c.before.before.before.before.before.kind-at.ensures
+  kind-is = c.of-kind.ensures ∙ ap kind_of c.kind_at.ensures
 
-returns : tie.Need-returns
-returns c = c.past-end.ensures ∙ after-end _ _ _ c.before.if1.true
+returns : tie.Need-returns-then-ended
+returns c = c.past_end.ensures ∙ after-end _ _ _ c.if-ended.true
 
-returns-2 : tie.Need-returns-2
+returns-2 : tie.Need-returns-in-Refused
 returns-2 c =
-    let d = c.before.before.before.before in
+    let d = c.before.before in
     c.faulted.ensures
-    ∙ frame_refused _ _ _ d.before.before.before.before.before.before.if1.false _ (kind-is d) c.before.before.frame.given.0.0 (frame d _ c.before.before.frame.given.1)
+    ∙ frame_refused _ _ _ d.if-ended.false _ (kind-is d) c.in-Refused.refusal (frame d _ c.in-Refused.is)
 
-by-kind-requires : tie.Need-by-kind-requires
-by-kind-requires c κs = frames.frame-passed _ _ _ _ (sym (frame c.before.before _ c.enum_told.given.1))
+by-kind-requires : tie.Need-by_kind-requires
+by-kind-requires c κs = frames.frame-passed _ _ _ _ (sym (frame c.before _ c.in_default.is))
 
-returns-3 : tie.Need-returns-3
+returns-3 : tie.Need-returns
 returns-3 c =
-    let d = c.before.before.before in
-    c.by_kind.ensures ∙ frame-passed _ _ _ d.before.before.before.before.before.before.if1.false _ (kind-is d) (frame d _ c.before.enum_told.given.1)
+    let d = c.before.before in
+    c.by_kind.ensures ∙ frame-passed _ _ _ d.if-ended.false _ (kind-is d) (frame d _ c.in_default.is)
 
 pub read_spec : {M : Type 1} → statement M
 read_spec =

@@ -20,6 +20,7 @@ use Rattle.job.proofs.Cursor.settings.Statement.{statement}
 use Rattle.job.proofs.Cursor.settings.Tie as tie
 
 -- what is known where the settings were refused, and where they were made, of the numbers that were read
+
 module _ (made : Made) (N T N' T' : ℕ) (j : Judges made (settings_checks N T) N T) (n : N ≡ N') (t : T ≡ T') where
   bad : (r : Refusal) → made ≡ Bad r → first (settings_checks N' T') ≡ some (numbered r)
   bad r e = rw (← n, ← t) (sym j.says ∙ ap said_made e)
@@ -31,24 +32,24 @@ module _ (made : Made) (N T N' T' : ℕ) (j : Judges made (settings_checks N T) 
 ten : (c : tie.Start) → length_at c.args.input.now c.args.self.at ≡ 10
 ten c = eqb-true (length_at c.args.input.now c.args.self.at) 10 c.requires.fits
 
-returns : tie.Need-returns
+returns : tie.Need-returns-in-Bad
 returns c =
-    let d = c.before.before.before.before in
+    let d = c in
     c.faulted.ensures
     ∙ body_refused _ _ _ kind.Settings _
-    (settings-refused _ _ _ _ (bad _ _ _ _ _ d.new.ensures d.before.before.before.word.ensures d.before.before.quad.ensures c.before.before.made.given.0.0 c.before.before.made.given.1))
+    (settings-refused _ _ _ _ (bad _ _ _ _ _ d.new-made.ensures d.word-height.ensures d.quad-members.ensures c.in-Bad.refusal c.in-Bad.is))
 
-returns-2 : tie.Need-returns-2
+returns-2 : tie.Need-returns-in-Good
 returns-2 c =
-    let d = c.before.before.before.before in
-    let w = d.before.before.before.word.ensures in
-    let q = d.before.before.quad.ensures in
+    let d = c in
+    let w = d.word-height.ensures in
+    let q = d.quad-members.ensures in
     c.passed.ensures
-    ∙ rw (c.before.begin.ensures, w, q, d.before.quad2.ensures)
-    (body-passed _ _ _ kind.Settings (settings-passed _ _ _ (good _ _ _ _ _ d.new.ensures w q _ c.before.before.enum_told.given.1)))
+    ∙ rw (c.begin.ensures, w, q, d.quad-bound.ensures)
+    (body-passed _ _ _ kind.Settings (settings-passed _ _ _ (good _ _ _ _ _ d.new-made.ensures w q _ c.in-Good.is)))
 
-pub settings-spec : {M : Type 1} → statement M
-settings-spec =
+pub settings_spec : {M : Type 1} → statement M
+settings_spec =
     tie.close
     (tie.spec
     (λ c. search rules)

@@ -3,8 +3,8 @@ use borrow.Author.Rules.{rules}
 use Rattle.job.proofs.Kind.fits.Statement.{statement}
 use Rattle.job.proofs.Kind.fits.Tie as tie
 
-pub fits-spec : {M : Type 1} → statement M
-fits-spec =
+pub fits_spec : {M : Type 1} → statement M
+fits_spec =
     tie.close
     (tie.spec
     (λ c. search rules)
@@ -12,8 +12,8 @@ fits-spec =
     (λ c. search rules)
     (λ c. search rules)
     (λ c. search rules)
-    (λ c. rw c.enum_told.given.1)
-    (λ c. rw c.enum-told2.given.1)
-    (λ c. rw c.enum-told3.given.1)
+    (λ c. rw c.in-Settings.is)
+    (λ c. rw c.in-Column.is)
+    (λ c. rw c.in-End.is)
     (λ c. search rules)
     (λ c. search rules))
