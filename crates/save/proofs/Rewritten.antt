@@ -33,7 +33,7 @@ use Rattle.job.specs.declared.Kind.TheVariants as kind
 use Rattle.job.proofs.Says.{SaysBy, read-says}
 use Rattle.job.proofs.Folding.{job_ending}
 use Rattle.job.proofs.Ordering.{behind-done, stay}
-use Rattle.job.proofs.Whole.{front_of}
+use Rattle.job.proofs.Whole.{front_of_lem}
 
 -- ---- one record
 
@@ -175,7 +175,7 @@ module _ (asking : Asking) (s : List ℕ) (byte : Bytes s) where
   pub written_back : (job : Job) → whole_file asking s ≡ done job → remarks_in s ≡ 0 → written job ≡ s
   unfolding job_from remarks_in fold_of written
   written_back job e r =
-      let f = front_of asking s job e in
+      let f = front_of_lem asking s job e in
       let b = (all (suc (length s)) start_state 0 refl f.found f.is r).bytes in
       let columns = f.found.job.columns in
       let z : 0 + length columns ≡ length columns = omega arith in

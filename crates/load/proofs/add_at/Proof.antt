@@ -15,12 +15,12 @@ use Rattle.load.proofs.add_at.Tie as tie
 
 returns : tie.Need-returns
 returns c =
-    let d = c.before.before.before in
-    let b = d.before.before.before.before.before in
+    let d = c in
+    let b = d in
     let a = b.args in
-    subst (λ (n : ℕ). Does (adding (held_in a.head a.table.now) (column_of (words a.input.now a.start n))) (told_table d.add-decoded.result) d.add-decoded.new.1.1.1.1.0)
+    subst (λ (n : ℕ). Does (adding (held_in a.head a.table.now) (column_of (words a.input.now a.start n))) (told_table d.add_decoded.result) d.add_decoded.new.table)
     (length-take-le {A = ℕ} a.count (replicate most_boundaries 0) b.requires)
-    d.add-decoded.ensures
+    d.add_decoded.ensures
 
-pub add-at-spec : {M : Type 1} → statement M
-add-at-spec = tie.close (tie.spec (λ c. search rules) (λ c. sym (length-take-le _ _ c.before.before.before.requires)) (λ c κs. search rules) (λ c. search rules) returns)
+pub add_at_spec : {M : Type 1} → statement M
+add_at_spec = tie.close (tie.spec (λ c. search rules) (λ c. sym (length-take-le _ _ c.requires)) (λ c κs. search rules) (λ c. search rules) returns)

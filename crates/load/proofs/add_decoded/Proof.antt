@@ -12,11 +12,11 @@ use Rattle.load.proofs.add_decoded.Tie as tie
 
 returns : tie.Need-returns
 returns c =
-    let d = c.before.before in
-    let b = d.before.before.before.before in
-    let a = b.before.before.before.before.before.before.args in
-    subst (λ (bs : List ℕ). Does (adding (held_in a.head a.table.now) (column_of bs)) (told_table d.add-column.result) d.add-column.new.0) b.before.read-words.ensures
-    d.add-column.ensures
+    let d = c in
+    let b = d in
+    let a = b.args in
+    subst (λ (bs : List ℕ). Does (adding (held_in a.head a.table.now) (column_of bs)) (told_table d.add_column.result) d.add_column.new.table) b.read_words.ensures
+    d.add_column.ensures
 
-pub add-decoded-spec : {M : Type 1} → statement M
-add-decoded-spec = tie.close (tie.spec (λ c κs. search rules) (λ c κs. search rules) (λ c. search rules) (λ c. search rules) returns)
+pub add_decoded_spec : {M : Type 1} → statement M
+add_decoded_spec = tie.close (tie.spec (λ c κs. search rules) (λ c κs. search rules) (λ c. search rules) (λ c. search rules) returns)

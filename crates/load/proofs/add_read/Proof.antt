@@ -29,18 +29,18 @@ module _ (s : List ℕ) (head : Head) (r : Read) (old : List ℕ) (start count :
   one-added answer new d =
       d.leaves ∙ (passes (adding (held_in head old) (column_of (words s start count))) can.1).1 ∙ ap (λ (x : Read). added_all head (column_in s (told_read x)) old) (sym e)
 
-returns : tie.Need-returns
+returns : tie.Need-returns-in-Column
 returns c =
-    let d = c.before.before in
-    let b = d.before.before.before in
-    one-added _ _ _ _ _ _ b.read.given.1 b.before.before.before.before.requires _ _ d.add_at.ensures
+    let d = c in
+    let b = d in
+    one-added _ _ _ _ _ _ b.in-Column.is b.requires _ _ d.add_at.ensures
 
-pub add-read-spec : {M : Type 1} → statement M
-add-read-spec =
+pub add_read_spec : {M : Type 1} → statement M
+add_read_spec =
     tie.close
     (tie.spec
     (λ c. search rules)
-    (λ c κs. (can _ _ _ _ _ _ c.before.before.read.given.1 c.before.before.before.before.before.before.requires).0)
+    (λ c κs. (can _ _ _ _ _ _ c.in-Column.is c.requires).0)
     (λ c. search rules)
     (λ c. search rules)
     (λ c. search rules)

@@ -9,42 +9,42 @@ use Rattle.load.proofs.Filling.{Filling, kept-long, none-added, addable, filled,
 use Rattle.load.proofs.fill.Statement.{statement}
 use Rattle.load.proofs.fill.Tie as tie
 
-abbrev invariant-loop : tie.invariant-loop
+abbrev invariant-loop : tie.invariant-loop-head
 invariant-loop input most table₀ cursor₀ state₀ table cursor state = Filling most input table₀ state cursor.at table
 
-abbrev decreases-loop : tie.decreases-loop
+abbrev decreases-loop : tie.decreases-loop-head
 decreases-loop input most table₀ cursor₀ state₀ table cursor state = length input - cursor.at
 
-loop-holds : tie.Need-loop-init invariant-loop decreases-loop
-loop-holds c = rw (c.new2.ensures, c.before.new.ensures) (none-added _ _ _ c.before.before.before.before.requires)
+loop-holds : tie.Need-loop-head-init invariant-loop decreases-loop
+loop-holds c = rw (c.new-state.ensures, c.new-cursor.ensures) (none-added _ _ _ c.requires)
 
-returns : tie.Need-returns invariant-loop decreases-loop
+returns : tie.Need-returns-in-Refused invariant-loop decreases-loop
 returns c =
-    let d = c.before.before in
-    absurd (never _ _ _ d.before.before.before.before.before.before.before.requires d.before.before.loop.invariant _ d.before.read.ensures _ d.heed-of.ensures _ c.enum_told.given.1)
+    let d = c in
+    absurd (never _ _ _ d.requires d.loop-head.invariant _ d.read-step.ensures _ d.heed_of-heed.ensures _ c.in-Refused.is)
 
-returns-2 : tie.Need-returns-2 invariant-loop decreases-loop
+returns-2 : tie.Need-returns-in-Ended invariant-loop decreases-loop
 returns-2 c =
-    let d = c.before.before in
-    all-filled _ _ _ d.before.before.before.before.before.before.before.requires d.before.before.loop.invariant _ d.before.read.ensures _ d.heed-of.ensures c.enum-told2.given.1
+    let d = c in
+    all-filled _ _ _ d.requires d.loop-head.invariant _ d.read-step.ensures _ d.heed_of-heed.ensures c.in-Ended.is
 
-add-read-requires : tie.Need-add-read-requires invariant-loop decreases-loop
+add-read-requires : tie.Need-add_read-requires invariant-loop decreases-loop
 add-read-requires c κs =
-    let d = c.before.before.before.before in
-    addable _ _ _ d.before.before.before.before.before.before.before.requires d.before.before.loop.invariant _ d.before.read.ensures
+    let d = c in
+    addable _ _ _ d.requires d.loop-head.invariant _ d.read-step.ensures
 
-loop-less : tie.Need-loop-smaller invariant-loop decreases-loop
+loop-less : tie.Need-loop-head-smaller invariant-loop decreases-loop
 loop-less c =
-    let b = c.before.before.before.before.before.before.before in
-    let d = b.before.before in
-    omega (arith, ahead _ _ d.before.before.loop.invariant.reached _ d.before.read.ensures _ d.heed-of.ensures b.enum-told3.given.1)
+    let b = c in
+    let d = b in
+    omega (arith, ahead _ _ d.loop-head.invariant.reached _ d.read-step.ensures _ d.heed_of-heed.ensures b.in-Onward.is)
 
-loop-again : tie.Need-loop-preserved invariant-loop decreases-loop
+loop-again : tie.Need-loop-head-preserved invariant-loop decreases-loop
 loop-again c =
-    let a = c.before.before.before.before in
-    let b = a.before.before.before in
-    let d = b.before.before in
-    filled _ _ _ d.before.before.before.before.before.before.before.requires d.before.before.loop.invariant _ d.before.read.ensures _ d.heed-of.ensures b.enum-told3.given.1 _ a.add_read.ensures
+    let a = c in
+    let b = a in
+    let d = b in
+    filled _ _ _ d.requires d.loop-head.invariant _ d.read-step.ensures _ d.heed_of-heed.ensures b.in-Onward.is _ a.add_read.ensures
 
 pub fill_spec : {M : Type 1} → statement M
 fill_spec =
@@ -56,12 +56,12 @@ fill_spec =
     (λ c κs. search rules)
     loop-holds
     (λ c κs. search rules)
-    (λ c κs. read-sane _ _ _ _ c.read.ensures)
+    (λ c κs. read-sane _ _ _ _ c.read-step.ensures)
     (λ c. search rules)
-    (λ c. kept-long _ _ _ c.before.before.before.before.loop.invariant)
+    (λ c. kept-long _ _ _ c.loop-head.invariant)
     returns
     (λ c. search rules)
-    (λ c. kept-long _ _ _ c.before.before.before.before.loop.invariant)
+    (λ c. kept-long _ _ _ c.loop-head.invariant)
     returns-2
     (λ c. search rules)
     add-read-requires

@@ -8,30 +8,30 @@ use Rattle.load.proofs.Loading.{too_short, ready, loaded}
 use Rattle.load.proofs.load_front.Statement.{statement}
 use Rattle.load.proofs.load_front.Tie as tie
 
-byte : (c : tie.After-shared-slice-known) → Bytes c.before.args.input.now
-byte c i = omega (arith, c.shared-slice-known.given i)
+byte : (c : tie.After-shared_slice_known-1) → Bytes c.args.input.now
+byte c i = omega (arith, c.shared_slice_known-1.given i)
 
 fill-requires : tie.Need-fill-requires
 fill-requires c κs =
-    let d = c.before.before.before.before.before in
-    let b = d.before.before.before.before in
-    ready _ _ (byte b) _ b.before.requires _ _ _ d.clear-table.ensures _ (ap told_table c.before.enum_told.given.1)
+    let d = c in
+    let b = d.before.before.before.before.before.before.before.before in
+    ready _ _ (byte b) _ b.requires _ _ _ d.clear_table-cleared.ensures _ (ap told_table c.in-Done.is)
 
-returns : tie.Need-returns
+returns : tie.Need-returns-in-Refused
 returns c =
-    let d = c.before.before.before.before.before in
-    let b = d.before.before.before.before in
-    too_short _ _ (byte b) _ b.before.requires _ _ _ d.clear-table.ensures c.before.cleared.given.0.0 (ap told_table c.before.cleared.given.1)
+    let d = c in
+    let b = d.before.before.before.before.before.before.before in
+    too_short _ _ (byte b) _ b.requires _ _ _ d.clear_table-cleared.ensures c.in-Refused.refusal (ap told_table c.in-Refused.is)
 
-returns-2 : tie.Need-returns-2
+returns-2 : tie.Need-returns-in-Done
 returns-2 c =
-    let f = c.before.before in
-    let d = f.before.before.before.before.before.before in
-    let b = d.before.before.before.before in
-    loaded _ _ (byte b) _ b.before.requires _ _ _ d.clear-table.ensures _ (ap told_table f.before.before.enum_told.given.1) _ f.fill.ensures
+    let f = c in
+    let d = f in
+    let b = d.before.before.before.before.before.before.before.before.before.before.before in
+    loaded _ _ (byte b) _ b.requires _ _ _ d.clear_table-cleared.ensures _ (ap told_table f.in-Done.is) _ f.fill.ensures
 
-pub load-front-spec : {M : Type 1} → statement M
-load-front-spec =
+pub load_front_spec : {M : Type 1} → statement M
+load_front_spec =
     tie.close
     (tie.spec
     (λ c κs. search rules)

@@ -4,10 +4,10 @@ use Rattle.orders.specs.Kinds.{finish_kind, allowed_after}
 use Rattle.orders.proofs.allowed_after.Statement.{statement}
 use Rattle.orders.proofs.allowed_after.Tie as tie
 
-pub allowed-after-spec : {M : Type 1} → statement M
+pub allowed_after_spec : {M : Type 1} → statement M
 unfolding allowed_after
-allowed-after-spec =
+allowed_after_spec =
     tie.close
     (tie.spec
-    (λ c. simp (eq-eqb c.before.args.kind finish_kind c.if1.true))
-    (λ c. simp (ne_eqb c.before.args.kind finish_kind c.if1.false)))
+    (λ c. simp (eq-eqb c.args.kind finish_kind c.if-kind-eq-FINISH.true))
+    (λ c. simp (ne_eqb c.args.kind finish_kind c.if-kind-eq-FINISH.false)))

@@ -41,8 +41,8 @@ returns c =
     let a = c.before.before.before in
     (same a, subst (λ (p : Printed). Exactly p a.args.rise a.args.thickness a.args.step a.args.cure) (sym (same a)) (exact a))
 
-pub as-printed-spec : {M : Type 1} → statement M
-as-printed-spec =
+pub as_printed_spec : {M : Type 1} → statement M
+as_printed_spec =
     tie.close
     (tie.spec
     (λ c. search rules)

@@ -13,27 +13,27 @@ use Rattle.orders.proofs.Judged.{finish-miscounted, finish-low, finish-high}
 use Rattle.orders.proofs.check_finish.Statement.{statement}
 use Rattle.orders.proofs.check_finish.Tie as tie
 
-returns : tie.Need-returns
+returns : tie.Need-returns-then-word-read
 returns c =
-    let w = c.before.before.before in
-    ap (λ (r : Refusal). some (numbered r)) c.refusal-at.ensures
-    ∙ finish-miscounted _ _ _ (λ e. c.before.if1.true (w.word.ensures ∙ e))
+    let w = c in
+    ap (λ (r : Refusal). some (numbered r)) c.refusal_at.ensures
+    ∙ finish-miscounted _ _ _ (λ e. c.if-word-read.true (w.word.ensures ∙ e))
 
-returns-2 : tie.Need-returns-2
+returns-2 : tie.Need-returns-then-read-s
 returns-2 c =
-    let i = c.before.before.before.before in
-    ap (λ (r : Refusal). some (numbered r)) c.refusal-at2.ensures
-    ∙ finish-low _ _ _ (sym i.before.before.word.ensures ∙ i.if1.false) c.before.if2.true
+    let i = c in
+    ap (λ (r : Refusal). some (numbered r)) c.refusal_at-then-read-s.ensures
+    ∙ finish-low _ _ _ (sym i.word.ensures ∙ i.if-word-read.false) c.if-read-s.true
 
-returns-3 : tie.Need-returns-3
+returns-3 : tie.Need-returns
 returns-3 c =
-    let i = c.before.before.before.before in
-    let a = i.before.before.before.before.before.args in
+    let i = c in
+    let a = i.args in
     let past : 16 * a.read.layers + 6 ≡ 16 * a.read.layers + 4 + 2 = omega arith in
-    c.check-tail.ensures ∙ ap (λ (n : ℕ). first (tail a.file.now n ∷ [])) past ∙ finish-high _ _ _ (sym i.before.before.word.ensures ∙ i.if1.false) c.before.if2.false
+    c.check_tail.ensures ∙ ap (λ (n : ℕ). first (tail a.file.now n ∷ [])) past ∙ finish-high _ _ _ (sym i.word.ensures ∙ i.if-word-read.false) c.if-read-s.false
 
-pub check-finish-spec : {M : Type 1} → statement M
-check-finish-spec =
+pub check_finish_spec : {M : Type 1} → statement M
+check_finish_spec =
     tie.close
     (tie.spec
     (λ c. search rules)

@@ -12,33 +12,33 @@ use Rattle.orders.proofs.Lent.{unsettled, unstepped, unlisted, lent}
 use Rattle.orders.proofs.check_lent.Statement.{statement}
 use Rattle.orders.proofs.check_lent.Tie as tie
 
-returns : tie.Need-returns
-returns c = unsettled _ _ _ _ c.before.before.new.ensures _ c.enum_told.given.1
+returns : tie.Need-returns-in_default
+returns c = unsettled _ _ _ _ c.new-made.ensures _ c.in_default.is
 
-returns-2 : tie.Need-returns-2
+returns-2 : tie.Need-returns-in-Refused
 returns-2 c =
-    let k = c.before.before.before in
-    unstepped _ _ _ _ k.before.before.before.before.new.ensures _ k.before.before.made.given.1 _
-    (ap said_by (sym c.before.checked.given.1) ∙ k.check-step.ensures)
+    let k = c in
+    unstepped _ _ _ _ k.new-made.ensures _ k.in-Good.is _
+    (ap said_by (sym c.in-Refused.is) ∙ k.check_step-checked.ensures)
 
 -- the step passed
-stepped : (m : tie.After-enum-told2) → none ≡ first (step_check m.before.before.before.before.before.before.before.before.args.step ∷ [])
-stepped m = ap said_by (sym m.enum-told2.given.1) ∙ m.before.before.check-step.ensures
+stepped : (m : tie.In_default-checked) → none ≡ first (step_check m.args.step ∷ [])
+stepped m = ap said_by (sym m.in_default-checked.is) ∙ m.check_step-checked.ensures
 
-returns-3 : tie.Need-returns-3
+returns-3 : tie.Need-returns-then-cure-s
 returns-3 c =
     let m = c.before.before.before in
-    let k = m.before.before in
-    unlisted _ _ _ _ k.before.before.before.before.new.ensures _ k.before.before.made.given.1 (stepped m) _ c.refusal-at.ensures (omega arith)
+    let k = m in
+    unlisted _ _ _ _ k.new-made.ensures _ k.in-Good.is (stepped m) _ c.refusal_at.ensures (omega arith)
 
-returns-4 : tie.Need-returns-4
+returns-4 : tie.Need-returns
 returns-4 c =
     let m = c.before.before in
-    let k = m.before.before in
-    lent _ _ _ _ k.before.before.before.before.new.ensures _ k.before.before.made.given.1 (stepped m) (omega arith)
+    let k = m in
+    lent _ _ _ _ k.new-made.ensures _ k.in-Good.is (stepped m) (omega arith)
 
-pub check-lent-spec : {M : Type 1} → statement M
-check-lent-spec =
+pub check_lent_spec : {M : Type 1} → statement M
+check_lent_spec =
     tie.close
     (tie.spec
     (λ c κs. search rules)

@@ -20,7 +20,8 @@ use Rattle.orders.proofs.check_lift.Statement.{statement}
 use Rattle.orders.proofs.check_lift.Tie as tie
 
 -- what was found
-module _ (m : tie.After-lift-by) where
+
+module _ (m : tie.After-lift_by-found) where
   abbrev a : tie.Start
   a = m.before.before.before.before.before
 
@@ -42,21 +43,21 @@ module _ (m : tie.After-lift-by) where
   abbrev read : Stack
   read = a.args.read
 
-  found-is : m.lift-by.result ≡ found N T step cures file read
-  found-is = m.lift-by.ensures ∙ ap₂ (λ (bits n : ℕ). lowest (lifts_by T step cures read.rise bits) n) m.before.quad.ensures a.pre.0.greatest
+  found-is : m.lift_by-found.result ≡ found N T step cures file read
+  found-is = m.lift_by-found.ensures ∙ ap₂ (λ (bits n : ℕ). lowest (lifts_by T step cures read.rise bits) n) m.quad.ensures a.requires.0.greatest
 
   widest : a.args.s.tmax ≡ tmax T
-  widest = a.pre.0.greatest
+  widest = a.requires.0.greatest
 
-returns : tie.Need-returns
+returns : tie.Need-returns-then-found-s
 returns c =
     let m = c.before.before.before in
-    ap (λ (r : Refusal). some (numbered r)) c.refusal-at.ensures ∙ lift-none (N m) (T m) (step m) (cures m) (file m) (read m) (omega (arith, found-is m, widest m))
+    ap (λ (r : Refusal). some (numbered r)) c.refusal_at.ensures ∙ lift-none (N m) (T m) (step m) (cures m) (file m) (read m) (omega (arith, found-is m, widest m))
 
 -- a thickness was found
-module _ (m : tie.After-lift-by) (n : m.lift-by.result ≡ (a m).args.s.tmax → ⊥) where
+module _ (m : tie.After-lift_by-found) (n : m.lift_by-found.result ≡ (a m).args.s.tmax → ⊥) where
   abbrev x : ℕ
-  x = m.lift-by.result + 1
+  x = m.lift_by-found.result + 1
 
   less : found (N m) (T m) (step m) (cures m) (file m) (read m) < tmax (T m)
   less = omega (arith, found-is m, widest m, lowest-le (lifts_by (T m) (step m) (cures m) (read m).rise (le32 (file m) (body_at (lift_place (read m).layers)))) (tmax (T m)))
@@ -71,51 +72,51 @@ module _ (m : tie.After-lift-by) (n : m.lift-by.result ≡ (a m).args.s.tmax →
   is = ap (λ (i : ℕ). i + 1) (found-is m) ∙ sym (thickness-is (N m) (T m) (step m) (cures m) (file m) (read m))
 
 -- it is the first layer's
-returns-2 : tie.Need-returns-2
+returns-2 : tie.Need-returns-then-read-eq0
 returns-2 c =
     let m = c.before.before.before.before in
-    let n = c.before.before.if1.false in (
-      lift-first (N m) (T m) (step m) (cures m) (file m) (read m) (less m n) c.if2.true,
+    let n = c.if-found-s.false in (
+      lift-first (N m) (T m) (step m) (cures m) (file m) (read m) (less m n) c.if-read-eq0.true,
       is m n,
       from m n,
       to m n,
-      stands-first (step m) (read m) (a m).requires.1 (x m n) (from m n) (to m n) c.if2.true,
+      stands-first (step m) (read m) (a m).requires.1 (x m n) (from m n) (to m n) c.if-read-eq0.true,
     )
 
-returns-3 : tie.Need-returns-3
+returns-3 : tie.Need-returns-then-s-read
 returns-3 c =
     let m = c.before.before.before.before.before.before.before.before.before in
-    let n = c.before.before.before.before.before.before.before.if1.false in
-    ap (λ (r : Refusal). some (numbered r)) c.refusal-at2.ensures
-    ∙ lift-high (N m) (T m) (step m) (cures m) (file m) (read m) (less m n) c.before.before.before.before.before.if2.false c.before.if3.true
+    let n = c.if-found-s.false in
+    ap (λ (r : Refusal). some (numbered r)) c.refusal_at-then-s-read.ensures
+    ∙ lift-high (N m) (T m) (step m) (cures m) (file m) (read m) (less m n) c.if-read-eq0.false c.if-s-read.true
 
-returns-4 : tie.Need-returns-4
+returns-4 : tie.Need-returns
 returns-4 c =
     let m = c.before.before.before.before.before.before.before.before in
-    let n = c.before.before.before.before.before.before.if1.false in
-    let some-layer = c.before.before.before.before.if2.false in (
-      lift-low (N m) (T m) (step m) (cures m) (file m) (read m) (less m n) some-layer c.if3.false,
+    let n = c.if-found-s.false in
+    let some-layer = c.if-read-eq0.false in (
+      lift-low (N m) (T m) (step m) (cures m) (file m) (read m) (less m n) some-layer c.if-s-read.false,
       is m n,
       from m n,
       to m n,
-      stands-more (step m) (read m) (a m).requires.1 (x m n) (from m n) (to m n) some-layer (N m) (a m).requires.0.high c.if3.false,
+      stands-more (step m) (read m) (a m).requires.1 (x m n) (from m n) (to m n) some-layer (N m) (a m).requires.0.high c.if-s-read.false,
     )
 
-pub check-lift-spec : {M : Type 1} → statement M
-check-lift-spec =
+pub check_lift_spec : {M : Type 1} → statement M
+check_lift_spec =
     tie.close
     (tie.spec
-    (λ c. let s = c.before.before.before.requires.1 in omega (arith, s.few, s.low))
-    (λ c. let s = c.before.before.before.requires.1 in omega (arith, s.few, s.low))
+    (λ c. let s = c.requires.1 in omega (arith, s.few, s.low))
+    (λ c. let s = c.requires.1 in omega (arith, s.few, s.low))
     (λ c κs. search rules)
-    (λ c κs. let p = c.before.before.before.before.requires in (p.0, (p.1.low, p.1.steps)))
+    (λ c κs. let p = c.requires in (p.0, (p.1.low, p.1.steps)))
     (λ c κs. search rules)
     returns
-    (λ c. let m = c.before.before.before.before in let n = c.before.before.if1.false in omega (arith, to m n))
+    (λ c. let m = c.before.before.before.before in let n = c.if-found-s.false in omega (arith, to m n))
     returns-2
-    (λ c. let p = c.before.before.before.before.before.before.before.before.before.before.before.requires in omega (arith, p.0.high, p.1.thin))
-    (λ c. let p = c.before.before.before.before.before.before.before.before.before.before.before.before.requires in omega (arith, p.1.low))
+    (λ c. let p = c.requires in omega (arith, p.0.high, p.1.thin))
+    (λ c. let p = c.requires in omega (arith, p.1.low))
     (λ c κs. search rules)
     returns-3
-    (λ c. let m = c.before.before.before.before.before.before.before.before in let n = c.before.before.before.before.before.before.if1.false in omega (arith, to m n))
+    (λ c. let m = c.before.before.before.before.before.before.before.before in let n = c.if-found-s.false in omega (arith, to m n))
     returns-4)

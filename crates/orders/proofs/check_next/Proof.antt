@@ -13,18 +13,18 @@ use Rattle.orders.proofs.check_next.Tie as tie
 returns : tie.Need-returns
 unfolding next_checks
 returns c =
-    let f = c.before in
-    let l = f.before in
-    let w = l.before in
-    let k = w.before in
-    let a = k.before.before.args in
-    c.check-frame.ensures
+    let f = c in
+    let l = f in
+    let w = l in
+    let k = w in
+    let a = k.args in
+    c.check_frame.ensures
     ∙ ap₂ (λ (p q : Bool). first (frame_checks a.file.now (16 * a.layers) p q))
-    (w.allowed-after.ensures ∙ ap (allowed_after a.layers) k.kind-at.ensures)
-    (f.fits2.ensures ∙ ap₂ fits k.kind-at.ensures l.length_at.ensures)
+    (w.allowed_after.ensures ∙ ap (allowed_after a.layers) k.kind_at-kind.ensures)
+    (f.fits.ensures ∙ ap₂ fits k.kind_at-kind.ensures l.length_at.ensures)
 
-pub check-next-spec : {M : Type 1} → statement M
-check-next-spec =
+pub check_next_spec : {M : Type 1} → statement M
+check_next_spec =
     tie.close
     (tie.spec
     (λ c. search rules)

@@ -8,11 +8,11 @@ use Rattle.orders.proofs.Floats.{no_nan}
 use Rattle.orders.proofs.cure_bits.Statement.{statement}
 use Rattle.orders.proofs.cure_bits.Tie as tie
 
-pub cure-bits-spec : {M : Type 1} → statement M
+pub cure_bits_spec : {M : Type 1} → statement M
 unfolding cure_bits
-cure-bits-spec =
+cure_bits_spec =
     tie.close
     (tie.spec
     (λ c κs. search rules)
-    (λ c. no_nan _ _ _ _ c.before.as-printed.ensures.1.for-time.sixtyfourfold)
-    (λ c. ap (λ (p : Printed). to_bits binary32 p.cure) c.before.as-printed.ensures.0))
+    (λ c. no_nan _ _ _ _ c.as_printed-layer.ensures.1.for-time.sixtyfourfold)
+    (λ c. ap (λ (p : Printed). to_bits binary32 p.cure) c.as_printed-layer.ensures.0))

@@ -12,7 +12,7 @@ use Rattle.orders.proofs.Sequences.{layers-are, rises-to, distance_is}
 use Rattle.orders.proofs.distance.Statement.{statement}
 use Rattle.orders.proofs.distance.Tie as tie
 
-module _ (c : tie.After-datum-of2) where
+module _ (c : tie.After-datum_of-2) where
   abbrev start : tie.Start
   start = c.before.before.before.before
 
@@ -26,16 +26,16 @@ module _ (c : tie.After-datum-of2) where
   to = start.args.to
 
   there : to ≤ count zs
-  there = omega (arith, layers-are zs start.pre.0)
+  there = omega (arith, layers-are zs start.requires.0)
 
-  upper : c.before.before.datum-of.result ≡ datum (zs ! to)
-  upper = c.before.before.datum-of.ensures ∙ datum-back (zs ! to) (sfits_of c.before.before.before.datum-of-arg.given)
+  upper : c.datum_of.result ≡ datum (zs ! to)
+  upper = c.datum_of.ensures ∙ datum-back (zs ! to) (sfits_of c.datum_of-arg-1.given)
 
-  lower : c.datum-of2.result ≡ datum (zs ! from)
-  lower = c.datum-of2.ensures ∙ datum-back (zs ! from) (sfits_of c.before.datum-of-arg2.given)
+  lower : c.datum_of-2.result ≡ datum (zs ! from)
+  lower = c.datum_of-2.ensures ∙ datum-back (zs ! from) (sfits_of c.datum_of-arg-2-1.given)
 
   climbs : datum (zs ! from) < datum (zs ! to)
-  climbs = rises-to zs start.pre.0 from to start.pre.1.0 there
+  climbs = rises-to zs start.requires.0 from to start.requires.1.0 there
 
 returns : tie.Need-returns
 returns c =
@@ -43,8 +43,8 @@ returns c =
     let w = (start c).requires.0.within (to c) (there c) in
     (ap₂ ◌-◌ (upper c) (lower c) ∙ sym e, omega (arith, upper c, lower c, climbs c), omega (arith, upper c, w.1))
 
-pub distance-spec : {M : Type 1} → statement M
-distance-spec =
+pub distance_spec : {M : Type 1} → statement M
+distance_spec =
     tie.close
     (tie.spec
     (λ c. search rules)

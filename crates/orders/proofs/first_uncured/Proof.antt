@@ -18,14 +18,14 @@ use Rattle.orders.proofs.Sequences.{layers-are}
 use Rattle.orders.proofs.first_uncured.Statement.{statement}
 use Rattle.orders.proofs.first_uncured.Tie as tie
 
-abbrev invariant-loop : tie.invariant-loop
+abbrev invariant-loop : tie.invariant-loop-k
 invariant-loop cure sequence layers k₀ k = (k ≤ layers) × ((j : ℕ) → j < k → eqb (cure_of cure (thickness sequence j)) 0 ≡ false)
 
-abbrev decreases-loop : tie.decreases-loop
+abbrev decreases-loop : tie.decreases-loop-k
 decreases-loop cure sequence layers k₀ k = layers - k
 
 -- the layer that is looked at
-module _ (m : tie.After-entry-of invariant-loop decreases-loop) where
+module _ (m : tie.After-entry_of invariant-loop decreases-loop) where
   abbrev a : tie.Start invariant-loop decreases-loop
   a = m.before.before.before.before.before
 
@@ -36,42 +36,42 @@ module _ (m : tie.After-entry-of invariant-loop decreases-loop) where
   zs = a.args.sequence.now
 
   abbrev k : ℕ
-  k = m.before.before.before.loop.k
+  k = m.loop-k.k
 
   entry-is : m.entry_of.result ≡ cure_of cures (thickness zs k)
   entry-is =
-      m.entry_of.ensures ∙ ap (cure_of cures) (m.before.distance.ensures.0 ∙ ap (λ (i : ℕ). nat_abs (zs ! i -ℤ zs ! k)) (add-one k))
+      m.entry_of.ensures ∙ ap (cure_of cures) (m.distance.ensures.0 ∙ ap (λ (i : ℕ). nat_abs (zs ! i -ℤ zs ! k)) (add-one k))
 
-returns : tie.Need-returns invariant-loop decreases-loop
+returns : tie.Need-returns-then-entry_of-eq0 invariant-loop decreases-loop
 unfolding first_uncured
 returns c =
     let m = c.before in
     let l = layers-are (zs m) (a m).requires in
-    found _ (count (zs m)) (k m) (omega (arith, l)) m.before.before.before.loop.invariant.1 (ap (λ (x : ℕ). eqb x 0) (sym (entry-is m)) ∙ eq-eqb m.entry_of.result 0 c.if1.true)
+    found _ (count (zs m)) (k m) (omega (arith, l)) m.loop-k.invariant.1 (ap (λ (x : ℕ). eqb x 0) (sym (entry-is m)) ∙ eq-eqb m.entry_of.result 0 c.if-entry_of-eq0.true)
 
-loop-again : tie.Need-loop-preserved invariant-loop decreases-loop
+loop-again : tie.Need-loop-k-preserved invariant-loop decreases-loop
 loop-again c =
     let m = c.before in
-    let v = m.before.before.before.loop.invariant in
-    (omega arith, below_more _ _ v.1 (ap (λ (x : ℕ). eqb x 0) (sym (entry-is m)) ∙ ne_eqb m.entry_of.result 0 c.if1.false))
+    let v = m.loop-k.invariant in
+    (omega arith, below_more _ _ v.1 (ap (λ (x : ℕ). eqb x 0) (sym (entry-is m)) ∙ ne_eqb m.entry_of.result 0 c.if-entry_of-eq0.false))
 
-returns-2 : tie.Need-returns-2 invariant-loop decreases-loop
+returns-2 : tie.Need-returns invariant-loop decreases-loop
 unfolding first_uncured
 returns-2 c =
-    let a = c.before.before.before in
+    let a = c in
     let l = layers-are a.args.sequence.now a.requires in
-    missed _ (count a.args.sequence.now) c.before.loop.k (omega (arith, l)) (omega (arith, l)) c.before.loop.invariant.1
+    missed _ (count a.args.sequence.now) c.loop-k.k (omega (arith, l)) (omega (arith, l)) c.loop-k.invariant.1
 
-pub first-uncured-spec : {M : Type 1} → statement M
-first-uncured-spec =
+pub first_uncured_spec : {M : Type 1} → statement M
+first_uncured_spec =
     tie.close
     (tie.spec
     invariant-loop
     decreases-loop
-    (λ c. omega (arith, c.before.requires.layered))
+    (λ c. omega (arith, c.requires.layered))
     (λ c. (omega arith, λ j l. absurd (omega arith)))
     (λ c. search rules)
-    (λ c κs. let a = c.before.before.before in (a.requires, (omega arith, omega (arith, a.requires.layered))))
+    (λ c κs. let a = c in (a.requires, (omega arith, omega (arith, a.requires.layered))))
     (λ c κs. c.distance.ensures.1)
     returns
     (λ c. search rules)

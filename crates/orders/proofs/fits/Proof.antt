@@ -4,10 +4,10 @@ use Rattle.orders.specs.Kinds.{finish_kind, fits}
 use Rattle.orders.proofs.fits.Statement.{statement}
 use Rattle.orders.proofs.fits.Tie as tie
 
-pub fits-spec : {M : Type 1} → statement M
+pub fits_spec : {M : Type 1} → statement M
 unfolding fits
-fits-spec =
+fits_spec =
     tie.close
     (tie.spec
-    (λ c. simp (eq-eqb c.before.args.kind finish_kind c.if1.true))
-    (λ c. simp (ne_eqb c.before.args.kind finish_kind c.if1.false)))
+    (λ c. simp (eq-eqb c.args.kind finish_kind c.if-kind-eq-FINISH.true))
+    (λ c. simp (ne_eqb c.args.kind finish_kind c.if-kind-eq-FINISH.false)))

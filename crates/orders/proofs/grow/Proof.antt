@@ -7,11 +7,11 @@ use borrow.Author.Tests.{eq-eqb, ne_eqb}
 use Rattle.orders.proofs.grow.Statement.{statement}
 use Rattle.orders.proofs.grow.Tie as tie
 
-returns : tie.Need-returns
+returns : tie.Need-returns-then-read-eq0
 returns c =
-    let read = c.before.before.before.args.read in
+    let read = c.args.read in
     let one : 1 ≡ read.layers + 1 = omega arith in
-    simp (eq-eqb read.layers 0 c.before.if1.true) (λ i. record { layers = one i; first = c.before.before.before.args.t; rise = read.rise + c.before.before.before.args.t })
+    simp (eq-eqb read.layers 0 c.if-read-eq0.true) (λ i. record { layers = one i; first = c.args.t; rise = read.rise + c.args.t })
 
 pub grow_spec : {M : Type 1} → statement M
 grow_spec =
@@ -21,4 +21,4 @@ grow_spec =
     returns
     (λ c. search rules)
     (λ c. search rules)
-    (λ c. simp (ne_eqb c.before.before.before.before.args.read.layers 0 c.before.before.if1.false)))
+    (λ c. simp (ne_eqb c.args.read.layers 0 c.if-read-eq0.false)))

@@ -8,11 +8,11 @@ use Rattle.orders.proofs.Floats.{no_nan}
 use Rattle.orders.proofs.height_bits.Statement.{statement}
 use Rattle.orders.proofs.height_bits.Tie as tie
 
-pub height-bits-spec : {M : Type 1} → statement M
+pub height_bits_spec : {M : Type 1} → statement M
 unfolding height_bits
-height-bits-spec =
+height_bits_spec =
     tie.close
     (tie.spec
     (λ c κs. search rules)
-    (λ c. no_nan _ _ _ _ c.before.as-printed.ensures.1.to-height.eightfold)
-    (λ c. ap (λ (p : Printed). to_bits binary32 p.height) c.before.as-printed.ensures.0))
+    (λ c. no_nan _ _ _ _ c.as_printed-layer.ensures.1.to-height.eightfold)
+    (λ c. ap (λ (p : Printed). to_bits binary32 p.height) c.as_printed-layer.ensures.0))

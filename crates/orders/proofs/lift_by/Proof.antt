@@ -10,35 +10,35 @@ use Rattle.orders.specs.File.{lifts_by}
 use Rattle.orders.proofs.lift_by.Statement.{statement}
 use Rattle.orders.proofs.lift_by.Tie as tie
 
-abbrev invariant-loop : tie.invariant-loop
+abbrev invariant-loop : tie.invariant-loop-i
 invariant-loop s step cure rise bits i₀ i = (i ≤ s.tmax) × ((j : ℕ) → j < i → lifts_by s.members step cure rise bits j ≡ false)
 
-abbrev decreases-loop : tie.decreases-loop
+abbrev decreases-loop : tie.decreases-loop-i
 decreases-loop s step cure rise bits i₀ i = s.tmax - i
 
-returns : tie.Need-returns invariant-loop decreases-loop
+returns : tie.Need-returns-then-lifts_by invariant-loop decreases-loop
 unfolding lifts_by
 returns c =
-    let l = c.before.before.before.before in
-    found _ _ _ (omega arith) l.loop.invariant.1 (sym c.before.lifts-by.ensures ∙ c.if2.true)
+    let l = c in
+    found _ _ _ (omega arith) l.loop-i.invariant.1 (sym c.lifts_by.ensures ∙ c.if-lifts_by.true)
 
-loop-again : tie.Need-loop-preserved invariant-loop decreases-loop
+loop-again : tie.Need-loop-i-preserved invariant-loop decreases-loop
 unfolding lifts_by
 loop-again c =
-    let l = c.before.before.before.before in
-    (omega arith, below_more _ _ l.loop.invariant.1 (sym c.before.lifts-by.ensures ∙ c.if2.false))
+    let l = c in
+    (omega arith, below_more _ _ l.loop-i.invariant.1 (sym c.lifts_by.ensures ∙ c.if-lifts_by.false))
 
-pub lift-by-spec : {M : Type 1} → statement M
-lift-by-spec =
+pub lift_by_spec : {M : Type 1} → statement M
+lift_by_spec =
     tie.close
     (tie.spec
     invariant-loop
     decreases-loop
     (λ c. (omega arith, λ j l. absurd (omega arith)))
     (λ c. search rules)
-    (λ c κs. let a = c.before.before.before.before in (omega (arith, a.requires.0.thick), a.requires.1.1))
+    (λ c κs. let a = c in (omega (arith, a.requires.0.thick), a.requires.1.1))
     returns
     (λ c. search rules)
     (λ c. search rules)
     loop-again
-    (λ c. missed _ _ _ (omega arith) (omega arith) c.before.before.loop.invariant.1))
+    (λ c. missed _ _ _ (omega arith) (omega arith) c.loop-i.invariant.1))

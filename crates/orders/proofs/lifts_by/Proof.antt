@@ -7,15 +7,15 @@ use Rattle.printed.proofs.Layers.{usable-from}
 use Rattle.orders.proofs.lifts_by.Statement.{statement}
 use Rattle.orders.proofs.lifts_by.Tie as tie
 
-pub lifts-by-spec : {M : Type 1} → statement M
-lifts-by-spec =
+pub lifts_by_spec : {M : Type 1} → statement M
+lifts_by_spec =
     tie.close
     (tie.spec
     (λ c κs. search rules)
-    (λ c. simp (sym c.before.is-usable.ensures ∙ not-true _ c.if1.true))
+    (λ c. simp (sym c.is_usable.ensures ∙ c.if-not-is_usable.true))
     (λ c. search rules)
-    (λ c κs. usable-from _ _ _ (sym c.before.is-usable.ensures ∙ not-false _ c.if1.false))
+    (λ c κs. usable-from _ _ _ (sym c.is_usable.ensures ∙ c.if-not-is_usable.false))
     (λ c κs. search rules)
     (λ c.
-    let u = c.before.before in
-    simp (sym u.before.is-usable.ensures ∙ not-false _ u.if1.false) (ap (eqb _) c.height-bits.ensures)))
+    let u = c in
+    simp (sym u.is_usable.ensures ∙ u.if-not-is_usable.false) (ap (eqb _) c.height_bits.ensures)))

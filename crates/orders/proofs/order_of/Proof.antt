@@ -15,7 +15,7 @@ use Rattle.orders.specs.declared.Order.TheVariants as order
 use Rattle.orders.proofs.order_of.Statement.{statement}
 use Rattle.orders.proofs.order_of.Tie as tie
 
-module _ (m : tie.After-check-finish) where
+module _ (m : tie.After-check_finish-checked) where
   abbrev a : tie.Start
   a = m.before.before
 
@@ -23,34 +23,34 @@ module _ (m : tie.After-check-finish) where
   abbrev value : Order
   value = cond (ltb a.args.number (2 * a.args.read.layers)) a.args.found (order.Finish a.args.read.layers)
 
-  said : said_by m.check-finish.result ≡ first (finish_checks a.args.s.height a.args.file.now a.args.read)
-  said = m.check-finish.ensures
+  said : said_by m.check_finish-checked.result ≡ first (finish_checks a.args.s.height a.args.file.now a.args.read)
+  said = m.check_finish-checked.ensures
 
 -- past the finish
-passed : (m : tie.After-enum-told) → none ≡ first (finish_checks (a m.before.before).args.s.height (a m.before.before).args.file.now (a m.before.before).args.read)
-passed m = ap said_by (sym m.enum_told.given.1) ∙ said m.before.before
+passed : (m : tie.In_default) → none ≡ first (finish_checks (a m.before).args.s.height (a m.before).args.file.now (a m.before).args.read)
+passed m = ap said_by (sym m.in_default.is) ∙ said m.before
 
-returns : tie.Need-returns
+returns : tie.Need-returns-in-Refused
 returns c =
-    let m = c.before.before.before in
-    ap (λ (o : Option Numbered). told_by o (value m)) (ap said_by (sym c.before.checked.given.1) ∙ said m)
+    let m = c.before in
+    ap (λ (o : Option Numbered). told_by o (value m)) (ap said_by (sym c.in-Refused.is) ∙ said m)
 
-returns-2 : tie.Need-returns-2
+returns-2 : tie.Need-returns-then-number-read
 returns-2 c =
     let m = c.before.before in
-    let v = value m.before.before in
-    let e : (a m.before.before).args.found ≡ v = simp (lt-ltb _ _ c.if1.true) in
+    let v = value m.before in
+    let e : (a m.before).args.found ≡ v = simp (lt-ltb _ _ c.if-number-read.true) in
     ap done e ∙ ap (λ (o : Option Numbered). told_by o v) (passed m)
 
-returns-3 : tie.Need-returns-3
+returns-3 : tie.Need-returns
 returns-3 c =
     let m = c.before.before.before in
-    let v = value m.before.before in
-    let e : order.Finish (a m.before.before).args.read.layers ≡ v = simp (le-ltb _ _ c.before.if1.false) in
+    let v = value m.before in
+    let e : order.Finish (a m.before).args.read.layers ≡ v = simp (le-ltb _ _ c.if-number-read.false) in
     ap done e ∙ ap (λ (o : Option Numbered). told_by o v) (passed m)
 
-pub order-of-spec : {M : Type 1} → statement M
-order-of-spec =
+pub order_of_spec : {M : Type 1} → statement M
+order_of_spec =
     tie.close
     (tie.spec
     (λ c κs. search rules)

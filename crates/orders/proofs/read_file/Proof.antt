@@ -28,14 +28,14 @@ use Rattle.orders.proofs.Walk.{Walked, begun, over, frame-stops, finished, layer
 use Rattle.orders.proofs.read_file.Statement.{statement}
 use Rattle.orders.proofs.read_file.Tie as tie
 
-abbrev invariant-loop : tie.invariant-loop
+abbrev invariant-loop : tie.invariant-loop-read
 invariant-loop s step cure file number read₀ order₀ read order = Walked s.height s.members step cure file number read order
 
-abbrev decreases-loop : tie.decreases-loop
+abbrev decreases-loop : tie.decreases-loop-read
 decreases-loop s step cure file number read₀ order₀ read order = length file - read.layers
 
 -- in a turn
-module _ (m : tie.At-loop invariant-loop decreases-loop) where
+module _ (m : tie.At-loop-read invariant-loop decreases-loop) where
   abbrev a : tie.Start invariant-loop decreases-loop
   a = m.before.before.before
 
@@ -58,13 +58,13 @@ module _ (m : tie.At-loop invariant-loop decreases-loop) where
   number = a.args.number
 
   abbrev read : Stack
-  read = m.loop.read
+  read = m.loop-read.read
 
   abbrev known : Order
-  known = m.loop.order
+  known = m.loop-read.order
 
   abbrev walked : Walked N T step cures file number read known
-  walked = m.loop.inv
+  walked = m.loop-read.invariant
 
   low : read.layers ≤ 574
   low = omega (arith, walked.stands.few, walked.stands.low)
@@ -74,8 +74,8 @@ module _ (m : tie.At-loop invariant-loop decreases-loop) where
   stop r e = ap (λ (o : Option Numbered). told_by o (order_in T step cures file number)) e
 
 -- something is left of the file
-module _ (c : tie.Then1 invariant-loop decreases-loop) where
-  abbrev m : tie.At-loop invariant-loop decreases-loop
+module _ (c : tie.In-loop-read invariant-loop decreases-loop) where
+  abbrev m : tie.At-loop-read invariant-loop decreases-loop
   m = c.before.before
 
   abbrev n : ℕ
@@ -84,124 +84,124 @@ module _ (c : tie.Then1 invariant-loop decreases-loop) where
   more : (walked m).left ≡ suc n
   more = omega (arith, (walked m).bytes)
 
-returns : tie.Need-returns invariant-loop decreases-loop
+returns : tie.Need-returns-in-Refused invariant-loop decreases-loop
 returns c =
-    let k = c.before.before.before in
-    let t = k.before in
-    stop (m t) c.before.framed.given.0.0
+    let k = c in
+    let t = k.before.before in
+    stop (m t) c.in-Refused.refusal
     (frame-stops (N (m t)) (T (m t)) (step (m t)) (cures (m t)) (file (m t)) (number (m t)) (read (m t)) (known (m t)) (walked (m t)) (n t) (more t) _
-    (ap said_by (sym c.before.framed.given.1) ∙ k.check-next.ensures))
+    (ap said_by (sym c.in-Refused.is) ∙ k.check_next-framed.ensures))
 
 -- behind the frame
-module _ (c : tie.After-kind-at invariant-loop decreases-loop) where
-  abbrev turn : tie.Then1 invariant-loop decreases-loop
-  turn = c.before.before.before.before.before
+module _ (c : tie.After-kind_at invariant-loop decreases-loop) where
+  abbrev turn : tie.In-loop-read invariant-loop decreases-loop
+  turn = c.before.before.before.before
 
   framed : none ≡ first (next_checks (file (m turn)) (read (m turn)).layers)
-  framed = ap said_by (sym c.before.before.enum_told.given.1) ∙ c.before.before.before.before.check-next.ensures
+  framed = ap said_by (sym c.in_default.is) ∙ c.check_next-framed.ensures
 
-  last : c.kind-at.result ≡ finish_kind → finishes (file (m turn)) (read (m turn)).layers ≡ true
-  last e = eq-eqb _ finish_kind (sym c.kind-at.ensures ∙ e)
+  last : c.kind_at.result ≡ finish_kind → finishes (file (m turn)) (read (m turn)).layers ≡ true
+  last e = eq-eqb _ finish_kind (sym c.kind_at.ensures ∙ e)
 
-  not_last : (c.kind-at.result ≡ finish_kind → ⊥) → finishes (file (m turn)) (read (m turn)).layers ≡ false
-  not_last e = ne_eqb _ finish_kind (λ p. e (c.kind-at.ensures ∙ p))
+  not_last : (c.kind_at.result ≡ finish_kind → ⊥) → finishes (file (m turn)) (read (m turn)).layers ≡ false
+  not_last e = ne_eqb _ finish_kind (λ p. e (c.kind_at.ensures ∙ p))
 
-returns-2 : tie.Need-returns-2 invariant-loop decreases-loop
+returns-2 : tie.Need-returns-then-kind_at-eq-FINISH invariant-loop decreases-loop
 returns-2 c =
     let k = c.before.before in
     let t = turn k in
-    finished (N (m t)) (T (m t)) (step (m t)) (cures (m t)) (file (m t)) (number (m t)) (read (m t)) (known (m t)) (walked (m t)) (n t) (more t) (framed k) (last k c.before.if2.true) _ c.order-of.ensures
+    finished (N (m t)) (T (m t)) (step (m t)) (cures (m t)) (file (m t)) (number (m t)) (read (m t)) (known (m t)) (walked (m t)) (n t) (more t) (framed k) (last k c.if-kind_at-eq-FINISH.true) _ c.order_of.ensures
 
-returns-3 : tie.Need-returns-3 invariant-loop decreases-loop
+returns-3 : tie.Need-returns-in-Refused-layer invariant-loop decreases-loop
 returns-3 c =
-    let l = c.before.before.before in
-    let k = l.before.before in
+    let l = c in
+    let k = l.before.before.before in
     let t = turn k in
-    stop (m t) c.before.layer.given.0.0
-    (layer-stops (N (m t)) (T (m t)) (step (m t)) (cures (m t)) (file (m t)) (number (m t)) (read (m t)) (known (m t)) (walked (m t)) (n t) (more t) (framed k) (not_last k l.before.if2.false) _
-    (subst (λ (x : Layer). Looked x (layer_checks (N (m t)) (T (m t)) (step (m t)) (cures (m t)) (file (m t)) (read (m t))) (thickness_at (T (m t)) (step (m t)) (cures (m t)) (file (m t)) (read (m t))) (read (m t)) (step (m t))) c.before.layer.given.1 l.read-layer.ensures))
+    stop (m t) c.in-Refused-layer.refusal
+    (layer-stops (N (m t)) (T (m t)) (step (m t)) (cures (m t)) (file (m t)) (number (m t)) (read (m t)) (known (m t)) (walked (m t)) (n t) (more t) (framed k) (not_last k l.if-kind_at-eq-FINISH.false) _
+    (subst (λ (x : Layer). Looked x (layer_checks (N (m t)) (T (m t)) (step (m t)) (cures (m t)) (file (m t)) (read (m t))) (thickness_at (T (m t)) (step (m t)) (cures (m t)) (file (m t)) (read (m t))) (read (m t)) (step (m t))) c.in-Refused-layer.is l.read_layer-layer.ensures))
 
 -- a layer was read
-module _ (c : tie.After-known-told3 invariant-loop decreases-loop) where
-  abbrev l : tie.After-read-layer invariant-loop decreases-loop
-  l = c.before.before.before
+module _ (c : tie.In-Thick invariant-loop decreases-loop) where
+  abbrev l : tie.After-read_layer-layer invariant-loop decreases-loop
+  l = c.before
 
-  abbrev k : tie.After-kind-at invariant-loop decreases-loop
+  abbrev k : tie.After-kind_at invariant-loop decreases-loop
   k = l.before.before
 
-  abbrev i : tie.At-loop invariant-loop decreases-loop
+  abbrev i : tie.At-loop-read invariant-loop decreases-loop
   i = m (turn k)
 
   abbrev x : ℕ
-  x = c.before.layer2.given.0.0
+  x = c.in-Thick.t
 
   abbrev t : ℕ
   t = thickness_at (T i) (step i) (cures i) (file i) (read i)
 
   looked : Looked (Thick x) (layer_checks (N i) (T i) (step i) (cures i) (file i) (read i)) t (read i) (step i)
-  looked = subst (λ (y : Layer). Looked y (layer_checks (N i) (T i) (step i) (cures i) (file i) (read i)) t (read i) (step i)) c.before.layer2.given.1 l.read-layer.ensures
+  looked = subst (λ (y : Layer). Looked y (layer_checks (N i) (T i) (step i) (cures i) (file i) (read i)) t (read i) (step i)) c.in-Thick.is l.read_layer-layer.ensures
 
   next : Walked (N i) (T i) (step i) (cures i) (file i) (number i) (grown (read i) t) (picked (known i) (number i) (read i).layers (printed_layer ((read i).rise + t) t (step i) (cure_of (cures i) t)))
   next =
-      onward (N i) (T i) (step i) (cures i) (file i) (number i) (read i) (known i) (walked i) (n (turn k)) (more (turn k)) (framed k) (not_last k l.before.if2.left) looked.0
+      onward (N i) (T i) (step i) (cures i) (file i) (number i) (read i) (known i) (walked i) (n (turn k)) (more (turn k)) (framed k) (not_last k l.if-kind_at-eq-FINISH.false) looked.0
       (subst (λ (y : ℕ). Standing (step i) (grown (read i) y)) looked.1 looked.4)
 
 -- with its order picked, and the stack grown
-module _ (g : tie.After-grow invariant-loop decreases-loop) where
-  abbrev c : tie.After-known-told3 invariant-loop decreases-loop
+module _ (g : tie.After-grow-read invariant-loop decreases-loop) where
+  abbrev c : tie.In-Thick invariant-loop decreases-loop
   c = g.before.before.before.before.before
 
-  grown-is : g.grow.result ≡ grown (read (i c)) (t c)
-  grown-is = g.grow.ensures ∙ ap (grown (read (i c))) (looked c).1
+  grown-is : g.grow-read.result ≡ grown (read (i c)) (t c)
+  grown-is = g.grow-read.ensures ∙ ap (grown (read (i c))) (looked c).1
 
-  entry-is : g.before.before.before.entry_of.result ≡ cure_of (cures (i c)) (x c)
-  entry-is = g.before.before.before.entry_of.ensures
+  entry-is : g.entry_of.result ≡ cure_of (cures (i c)) (x c)
+  entry-is = g.entry_of.ensures
 
-  layer-is : g.before.before.as-printed.result ≡ printed_layer ((read (i c)).rise + t c) (t c) (step (i c)) (cure_of (cures (i c)) (t c))
+  layer-is : g.as_printed.result ≡ printed_layer ((read (i c)).rise + t c) (t c) (step (i c)) (cure_of (cures (i c)) (t c))
   layer-is =
-      g.before.before.as-printed.ensures.0
+      g.as_printed.ensures.0
       ∙ ap (printed_layer ((read (i c)).rise + x c) (x c) (step (i c))) entry-is
       ∙ ap (λ (y : ℕ). printed_layer ((read (i c)).rise + y) y (step (i c)) (cure_of (cures (i c)) y)) (looked c).1
 
-  order_is : g.before.order-in.result ≡ picked (known (i c)) (number (i c)) (read (i c)).layers (printed_layer ((read (i c)).rise + t c) (t c) (step (i c)) (cure_of (cures (i c)) (t c)))
-  order_is = g.before.order-in.ensures ∙ ap (λ (p : Printed). picked (known (i c)) (number (i c)) (read (i c)).layers p) layer-is
+  order_is : g.order_in-order.result ≡ picked (known (i c)) (number (i c)) (read (i c)).layers (printed_layer ((read (i c)).rise + t c) (t c) (step (i c)) (cure_of (cures (i c)) (t c)))
+  order_is = g.order_in-order.ensures ∙ ap (λ (p : Printed). picked (known (i c)) (number (i c)) (read (i c)).layers p) layer-is
 
-loop-again : tie.Need-loop-preserved invariant-loop decreases-loop
+loop-again : tie.Need-loop-read-preserved invariant-loop decreases-loop
 loop-again g =
     let j = i (c g) in
-    subst (λ (r : Stack). Walked (N j) (T j) (step j) (cures j) (file j) (number j) r g.before.order-in.result) (sym (grown-is g))
+    subst (λ (r : Stack). Walked (N j) (T j) (step j) (cures j) (file j) (number j) r g.order_in-order.result) (sym (grown-is g))
     (subst (λ (o : Order). Walked (N j) (T j) (step j) (cures j) (file j) (number j) (grown (read j) (t (c g))) o) (sym (order_is g)) (next (c g)))
 
-loop-less : tie.Need-loop-smaller invariant-loop decreases-loop
+loop-less : tie.Need-loop-read-smaller invariant-loop decreases-loop
 loop-less g =
     let f = turn (k (c g)) in
-    let e : g.grow.result.layers ≡ (read (i (c g))).layers + 1 = ap (λ (r : Stack). r.layers) (grown-is g) in
-    omega (arith, e, f.if1.taken)
+    let e : g.grow-read.result.layers ≡ (read (i (c g))).layers + 1 = ap (λ (r : Stack). r.layers) (grown-is g) in
+    omega (arith, e, f.loop-read-test.true)
 
-returns-4 : tie.Need-returns-4 invariant-loop decreases-loop
+returns-4 : tie.Need-returns invariant-loop decreases-loop
 returns-4 c =
-    let f = c.before.before in
-    let j = f.before.before in
-    ap refusal c.refusal-at.ensures
+    let f = c in
+    let j = f.before.before.before.before in
+    ap refusal c.refusal_at.ensures
     ∙ ap (λ (o : Option Numbered). told_by o (order_in (T j) (step j) (cures j) (file j) (number j))) (over (N j) (T j) (step j) (cures j) (file j) (number j) (read j) (known j) (walked j) (omega arith))
 
-pub read-file-spec : {M : Type 1} → statement M
-read-file-spec =
+pub read_file_spec : {M : Type 1} → statement M
+read_file_spec =
     tie.close
     (tie.spec
     invariant-loop
     decreases-loop
-    (λ c. let a = c.before.before in begun a.args.s.height a.args.s.members a.args.step a.args.cure.now a.args.file.now a.args.number a.requires.1 _)
+    (λ c. let a = c in begun a.args.s.height a.args.s.members a.args.step a.args.cure.now a.args.file.now a.args.number a.requires.1 _)
     (λ c. omega (arith, low c.before))
     (λ c κs. low c.before.before)
     (λ c. search rules)
     returns
     (λ c. search rules)
-    (λ c. omega (arith, low c.before.before.before.before.before.before))
+    (λ c. omega (arith, low c.before.before.before.before.before))
     (λ c κs. search rules)
-    (λ c κs. low c.before.before.before.before.before.before.before.before)
+    (λ c κs. low c.before.before.before.before.before.before.before)
     returns-2
-    (λ c κs. let j = c.before.before.before.before.before.before.before.before in ((a j).requires.0, (walked j).stands))
+    (λ c κs. let j = c.before.before.before.before.before.before.before in ((a j).requires.0, (walked j).stands))
     (λ c. search rules)
     returns-3
     (λ c. search rules)

@@ -17,15 +17,16 @@ use Rattle.orders.proofs.read_layer.Statement.{statement}
 use Rattle.orders.proofs.read_layer.Tie as tie
 
 -- where the lift is refused, the layer is
+
 refused-on : (N T step : ℕ) (cures file : List ℕ) (read : Stack) (l : Layer) → Looked l (lift_checks N T step cures file read) (thickness_at T step cures file read) read step
     → (r : Refusal) → l ≡ Refused r → Looked l (layer_checks N T step cures file read) (thickness_at T step cures file read) read step
 refused-on N T step cures file read (Thick x) k r e = absurd (let z : ◌≡◌ {A = ℕ} 0 1 = cc in omega arith)
 refused-on N T step cures file read (Refused q) k r e = layer-stopped N T step cures file read _ k
 
 -- the lift passed
-module _ (m : tie.After-known-told) where
+module _ (m : tie.In-Thick) where
   abbrev a : tie.Start
-  a = m.before.before.before.before.before.before
+  a = m.before.before.before.before
 
   abbrev N : ℕ
   N = a.args.s.height
@@ -46,32 +47,32 @@ module _ (m : tie.After-known-told) where
   read = a.args.read
 
   abbrev t : ℕ
-  t = m.before.lifted.given.0.0
+  t = m.in-Thick.t
 
   lifted : Looked (Thick t) (lift_checks N T step cures file read) (thickness_at T step cures file read) read step
   lifted =
-      subst (λ (l : Layer). Looked l (lift_checks N T step cures file read) (thickness_at T step cures file read) read step) m.before.lifted.given.1 m.before.before.before.check-lift.ensures
+      subst (λ (l : Layer). Looked l (lift_checks N T step cures file read) (thickness_at T step cures file read) read step) m.in-Thick.is m.check_lift-lifted.ensures
 
 -- and what the cure time's checks say is said of the layer
-cured : (c : tie.After-check-cure) → said_by c.check-cure.result ≡ first (layer_checks (N c.before) (T c.before) (step c.before) (cures c.before) (file c.before) (read c.before))
+cured : (c : tie.After-check_cure-cured) → said_by c.check_cure-cured.result ≡ first (layer_checks (N c.before) (T c.before) (step c.before) (cures c.before) (file c.before) (read c.before))
 cured c =
     let m = c.before in
     layer-behind (N m) (T m) (step m) (cures m) (file m) (read m) (lifted m).0 _
-    (c.check-cure.ensures ∙ ap (λ (n : ℕ). first (cure_checks (cures m) (file m) (read m).layers n)) (lifted m).1)
+    (c.check_cure-cured.ensures ∙ ap (λ (n : ℕ). first (cure_checks (cures m) (file m) (read m).layers n)) (lifted m).1)
 
-pub read-layer-spec : {M : Type 1} → statement M
-read-layer-spec =
+pub read_layer_spec : {M : Type 1} → statement M
+read_layer_spec =
     tie.close
     (tie.spec
     (λ c κs. search rules)
     (λ c. search rules)
     (λ c. search rules)
-    (λ c. refused-on _ _ _ _ _ _ _ c.before.before.check-lift.ensures _ c.enum_told.given.1)
+    (λ c. refused-on _ _ _ _ _ _ _ c.check_lift-lifted.ensures _ c.in_default.is)
     (λ c κs. ((lifted c).4, (lifted c).2))
     (λ c. search rules)
-    (λ c. ap said_by (sym c.before.cured.given.1) ∙ cured c.before.before.before)
+    (λ c. ap said_by (sym c.in-Refused.is) ∙ cured c.before)
     (λ c. search rules)
     (λ c.
-    let k = c.before.before in
+    let k = c.before in
     let v = lifted k.before in
-    (ap said_by (sym c.enum-told2.given.1) ∙ cured k, v.1, v.2, v.3, v.4)))
+    (ap said_by (sym c.in_default-cured.is) ∙ cured k, v.1, v.2, v.3, v.4)))

@@ -24,7 +24,7 @@ use Rattle.orders.proofs.Writes.{uncured-stop, output-stop, all_pass}
 use Rattle.orders.proofs.write_file.Statement.{statement}
 use Rattle.orders.proofs.write_file.Tie as tie
 
-module _ (m : tie.After-first-uncured) where
+module _ (m : tie.After-first_uncured-uncured) where
   abbrev a : tie.Start
   a = m.before.before.before
 
@@ -42,72 +42,72 @@ module _ (m : tie.After-first-uncured) where
 
   -- the number of layers
   layers : length zs - 1 ≡ count zs
-  layers = sym (layers-are zs a.pre.0)
+  layers = sym (layers-are zs a.requires.0)
 
   few : length zs - 1 ≤ 600
-  few = omega (arith, layers, few-layers zs a.pre.0)
+  few = omega (arith, layers, few-layers zs a.requires.0)
 
-  first-is : m.first-uncured.result ≡ first_uncured cures zs
-  first-is = m.first-uncured.ensures
+  first-is : m.first_uncured-uncured.result ≡ first_uncured cures zs
+  first-is = m.first_uncured-uncured.ensures
 
   size_is : 16 * (length zs - 1) + 6 ≡ file_size (count zs)
   unfolding file_size
   size_is = omega (arith, layers)
 
-returns : tie.Need-returns
+returns : tie.Need-returns-then-uncured-count
 unfolding filing
 returns c =
     let m = c.before.before in
-    refuses (filing (step m) (cures m) (zs m) (out m)) c.refusal-at.result
-    (ap (λ (r : Refusal). some (numbered r)) c.refusal-at.ensures
+    refuses (filing (step m) (cures m) (zs m) (out m)) c.refusal_at.result
+    (ap (λ (r : Refusal). some (numbered r)) c.refusal_at.ensures
     ∙ ap (λ (n : ℕ). some (record { number = 18; place = n + 1 })) (first-is m)
     ∙ uncured-stop (step m) (cures m) (zs m) (out m) (omega (arith, first-is m, layers m)))
 
-returns-2 : tie.Need-returns-2
+returns-2 : tie.Need-returns-then-out-size
 unfolding filing
 returns-2 c =
     let m = c.before.before.before in
-    refuses (filing (step m) (cures m) (zs m) (out m)) c.refusal-at2.result
-    (ap (λ (r : Refusal). some (numbered r)) c.refusal-at2.ensures
+    refuses (filing (step m) (cures m) (zs m) (out m)) c.refusal_at-then-out-size.result
+    (ap (λ (r : Refusal). some (numbered r)) c.refusal_at-then-out-size.ensures
     ∙ output-stop (step m) (cures m) (zs m) (out m) (omega (arith, first-is m, layers m)) (omega (arith, size_is m)))
 
-layers-requires : tie.Need-write-layers-requires
+layers-requires : tie.Need-write_layers-requires
 unfolding file_size
 layers-requires c κs =
     let m = c.before.before.before in
     ((a m).requires, omega (arith, size_is m))
 
 -- past the layers
-module _ (w : tie.After-write-layers) where
-  abbrev before : tie.After-first-uncured
+module _ (w : tie.After-write_layers) where
+  abbrev before : tie.After-first_uncured-uncured
   before = w.before.before.before.before
 
-  stored-long : length w.write-layers.last.0 ≡ length (out before)
-  stored-long = ap (λ (l : List ℕ). length l) w.write-layers.ensures ∙ length-sets (out before) 0 (bytes_of (record_bytes (step before)) (layers_to (cures before) (zs before) (count (zs before))))
+  stored-long : length w.write_layers.new.out ≡ length (out before)
+  stored-long = ap (λ (l : List ℕ). length l) w.write_layers.ensures ∙ length-sets (out before) 0 (bytes_of (record_bytes (step before)) (layers_to (cures before) (zs before) (count (zs before))))
 
-finish-requires : tie.Need-write-finish-requires
+finish-requires : tie.Need-write_finish-requires
 finish-requires c κs =
     let w = c.before.before.before in
     (omega (arith, few (before w)), omega (arith, stored-long w))
 
-returns-3 : tie.Need-returns-3
+returns-3 : tie.Need-returns
 unfolding filing
 returns-3 c =
-    let f = c.before.before in
-    let w = f.before.before.before.before in
+    let f = c in
+    let w = f.before.before.before.before.before.before in
     let m = before w in
     let room : file_size (count (zs m)) ≤ length (out m) = omega (arith, size_is m) in
     works (filing (step m) (cures m) (zs m) (out m)) _ _ (all_pass (step m) (cures m) (zs m) (out m) (omega (arith, first-is m, layers m)) room) (size_is m)
-    (f.write-finish.ensures
-    ∙ ap (λ (n : ℕ). sets w.write-layers.new.0 (16 * (length (zs m) - 1)) (framed finish_kind (bytes16 n))) (layers m)
-    ∙ file-stored (step m) (cures m) (zs m) (out m) w.write-layers.new.0 (16 * (length (zs m) - 1)) w.write-layers.ensures (omega (arith, layers m)) room)
+    (f.write_finish.ensures
+    ∙ ap (λ (n : ℕ). sets w.write_layers.new.out (16 * (length (zs m) - 1)) (framed finish_kind (bytes16 n))) (layers m)
+    ∙ file-stored (step m) (cures m) (zs m) (out m) w.write_layers.new.out (16 * (length (zs m) - 1)) w.write_layers.ensures (omega (arith, layers m)) room)
 
-pub write-file-spec : {M : Type 1} → statement M
-write-file-spec =
+pub write_file_spec : {M : Type 1} → statement M
+write_file_spec =
     tie.close
     (tie.spec
-    (λ c. omega (arith, c.before.before.requires.0.layered))
-    (λ c κs. c.before.before.requires.0)
+    (λ c. omega (arith, c.requires.0.layered))
+    (λ c κs. c.requires.0)
     (λ c. search rules)
     (λ c κs. search rules)
     returns

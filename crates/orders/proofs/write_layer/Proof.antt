@@ -9,16 +9,16 @@ use Rattle.orders.proofs.write_layer.Tie as tie
 
 returns : tie.Need-returns
 returns c =
-    let w = c.before.before in
-    let t = w.before.before.before in
-    let h = t.before in
-    let a = h.before.before in
-    w.write-numbers.ensures
-    ∙ layer-laid h.height-bits.result t.cure-bits.result a.args.at a.args.out.now a.requires.1
-    ∙ ap₂ (λ (x y : ℕ). sets a.args.out.now a.args.at (layer_bytes x y)) h.height-bits.ensures t.cure-bits.ensures
+    let w = c in
+    let t = w in
+    let h = t in
+    let a = h in
+    w.write_numbers.ensures
+    ∙ layer-laid h.height_bits-lift.result t.cure_bits-time.result a.args.at a.args.out.now a.requires.1
+    ∙ ap₂ (λ (x y : ℕ). sets a.args.out.now a.args.at (layer_bytes x y)) h.height_bits-lift.ensures t.cure_bits-time.ensures
 
-pub write-layer-spec : {M : Type 1} → statement M
-write-layer-spec =
+pub write_layer_spec : {M : Type 1} → statement M
+write_layer_spec =
     tie.close
     (tie.spec
     (λ c κs. search rules)

@@ -19,15 +19,15 @@ use Rattle.orders.proofs.Records.{layer_bytes, layer-stored}
 use Rattle.orders.proofs.write_layers.Statement.{statement}
 use Rattle.orders.proofs.write_layers.Tie as tie
 
-abbrev invariant-loop : tie.invariant-loop
+abbrev invariant-loop : tie.invariant-loop-k
 invariant-loop out₀ step cure sequence layers k₀ out k =
     (k ≤ layers) × (length out ≡ length out₀) × (out ≡ sets out₀ 0 (bytes_of (record_bytes step) (layers_to cure sequence k)))
 
-abbrev decreases-loop : tie.decreases-loop
+abbrev decreases-loop : tie.decreases-loop-k
 decreases-loop out₀ step cure sequence layers k₀ out k = layers - k
 
 -- this layer
-module _ (m : tie.After-distance2 invariant-loop decreases-loop) where
+module _ (m : tie.After-distance-t invariant-loop decreases-loop) where
   abbrev a : tie.Start invariant-loop decreases-loop
   a = m.before.before.before.before.before.before
 
@@ -38,67 +38,67 @@ module _ (m : tie.After-distance2 invariant-loop decreases-loop) where
   zs = a.args.sequence.now
 
   abbrev k : ℕ
-  k = m.before.before.before.loop.k
+  k = m.loop-k.k
 
   there : k < count zs
-  there = omega (arith, layers-are zs a.pre.0.0)
+  there = omega (arith, layers-are zs a.requires.0.0)
 
   room : 16 * k + 16 ≤ length a.args.out.now
-  room = omega (arith, there, a.pre.1)
+  room = omega (arith, there, a.requires.1)
 
   -- the distance of the boundary k + 1 from another
   up_to : (j : ℕ) → nat_abs (zs ! (k + 1) -ℤ zs ! j) ≡ nat_abs (zs ! suc k -ℤ zs ! j)
   up_to j = ap (λ (i : ℕ). nat_abs (zs ! i -ℤ zs ! j)) (add-one k)
 
   small : k ≤ 600
-  small = omega (arith, there, few-layers zs a.pre.0.0)
+  small = omega (arith, there, few-layers zs a.requires.0.0)
 
-layer-requires : tie.Need-write-layer-requires invariant-loop decreases-loop
+layer-requires : tie.Need-write_layer-requires invariant-loop decreases-loop
 layer-requires c κs =
     let m = c.before.before in
-    ((m.before.distance.ensures.2, m.distance2.ensures.2, (a m).requires.0.1), omega (arith, room m, m.before.before.before.loop.invariant.1))
+    ((m.distance-rise.ensures.2, m.distance-t.ensures.2, (a m).requires.0.1), omega (arith, room m, m.loop-k.invariant.1))
 
-loop-again : tie.Need-loop-preserved invariant-loop decreases-loop
+loop-again : tie.Need-loop-k-preserved invariant-loop decreases-loop
 loop-again c =
-    let w = c.before.before in
-    let e = w.before in
-    let m = e.before.before in
-    let l = m.before.before.before.loop in
+    let w = c in
+    let e = w in
+    let m = e.before.before.before.before.before in
+    let l = m.loop-k in
     let step = (a m).args.step in
-    let now = layer_bytes (height_bits step m.before.distance.result) (cure_bits e.entry_of.result) in
-    let entry = e.entry_of.ensures ∙ ap (cure_of (cures m)) (m.distance2.ensures.0 ∙ up_to m (k m)) in (
+    let now = layer_bytes (height_bits step m.distance-rise.result) (cure_bits e.entry_of.result) in
+    let entry = e.entry_of.ensures ∙ ap (cure_of (cures m)) (m.distance-t.ensures.0 ∙ up_to m (k m)) in (
       omega arith,
-      ap (λ (x : List ℕ). length x) w.write-layer.ensures ∙ length-sets l.out (16 * k m) now ∙ l.invariant.1,
-      w.write-layer.ensures
-          ∙ ap₂ (λ (x y : ℕ). sets l.out (16 * k m) (layer_bytes (height_bits step x) (cure_bits y))) (m.before.distance.ensures.0 ∙ up_to m 0) entry
+      ap (λ (x : List ℕ). length x) w.write_layer.ensures ∙ length-sets l.out (16 * k m) now ∙ l.invariant.1,
+      w.write_layer.ensures
+          ∙ ap₂ (λ (x y : ℕ). sets l.out (16 * k m) (layer_bytes (height_bits step x) (cure_bits y))) (m.distance-rise.ensures.0 ∙ up_to m 0) entry
           ∙ layer-stored step (cures m) (zs m) (a m).args.out.now l.out (k m) (16 * k m) l.invariant.2 refl
           ∙ ap (λ (n : ℕ). sets (a m).args.out.now 0 (bytes_of (record_bytes step) (layers_to (cures m) (zs m) n))) (sym (add-one (k m))),
     )
 
 returns : tie.Need-returns invariant-loop decreases-loop
 returns c =
-    let l = c.before.loop in
-    let a = c.before.before.before.before in
+    let l = c.loop-k in
+    let a = c in
     let all : l.k ≡ count a.args.sequence.now = omega (arith, layers-are a.args.sequence.now a.requires.0.0) in
     l.invariant.2 ∙ ap (λ (n : ℕ). sets a.args.out.now 0 (bytes_of (record_bytes a.args.step) (layers_to a.args.cure.now a.args.sequence.now n))) all
 
-pub write-layers-spec : {M : Type 1} → statement M
-write-layers-spec =
+pub write_layers_spec : {M : Type 1} → statement M
+write_layers_spec =
     tie.close
     (tie.spec
     invariant-loop
     decreases-loop
-    (λ c. omega (arith, c.before.before.requires.0.0.layered))
+    (λ c. omega (arith, c.requires.0.0.layered))
     (λ c. (omega arith, refl, refl))
     (λ c. search rules)
-    (λ c κs. let a = c.before.before.before.before in (a.requires.0.0, (omega arith, omega (arith, a.requires.0.0.layered))))
+    (λ c κs. let a = c in (a.requires.0.0, (omega arith, omega (arith, a.requires.0.0.layered))))
     (λ c. search rules)
-    (λ c κs. let a = c.before.before.before.before.before in (a.requires.0.0, (omega arith, omega (arith, a.requires.0.0.layered))))
+    (λ c κs. let a = c in (a.requires.0.0, (omega arith, omega (arith, a.requires.0.0.layered))))
     (λ c. omega (arith, small c.before))
-    (λ c κs. c.before.distance2.ensures.1)
+    (λ c κs. c.distance-t.ensures.1)
     layer-requires
     (λ c. search rules)
     (λ c. search rules)
     loop-again
-    (λ c. c.before.loop.invariant.1)
+    (λ c. c.loop-k.invariant.1)
     returns)

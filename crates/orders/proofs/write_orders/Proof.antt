@@ -13,44 +13,44 @@ use Rattle.orders.proofs.Writes.{unlent, unordered, sequence-passes, filed}
 use Rattle.orders.proofs.write_orders.Statement.{statement}
 use Rattle.orders.proofs.write_orders.Tie as tie
 
-returns : tie.Need-returns
-returns c = unlent _ _ _ _ _ _ c.before.lent.given.0.0 (ap said_made (sym c.before.lent.given.1) ∙ c.before.before.before.check-lent.ensures.says)
+returns : tie.Need-returns-in-Bad
+returns c = unlent _ _ _ _ _ _ c.in-Bad.refusal (ap said_made (sym c.in-Bad.is) ∙ c.check_lent-lent.ensures.says)
 
 -- what was lent passes
-module _ (m : tie.After-enum-told) where
+module _ (m : tie.In_default) where
   abbrev a : tie.Start
-  a = m.before.before.before.before.before
+  a = m.before.before.before.before
 
   passes : none ≡ first (lent_checks a.args.height a.args.members a.args.step a.args.cure.now)
-  passes = ap said_made (sym m.enum_told.given.1) ∙ m.before.before.check-lent.ensures.says
+  passes = ap said_made (sym m.in_default.is) ∙ m.check_lent-lent.ensures.says
 
-returns-2 : tie.Need-returns-2
+returns-2 : tie.Need-returns-in-Bad-judged
 returns-2 c =
-    let k = c.before.before.before in
-    unordered _ _ _ _ _ _ (passes k.before) c.before.judged.given.0.0 (ap said_made (sym c.before.judged.given.1) ∙ k.check-sequence.ensures.says)
+    let k = c.before in
+    unordered _ _ _ _ _ _ (passes k.before) c.in-Bad-judged.refusal (ap said_made (sym c.in-Bad-judged.is) ∙ k.check_sequence-judged.ensures.says)
 
 -- and the sequence
-module _ (n : tie.After-enum-told2) where
-  abbrev m : tie.After-enum-told
-  m = n.before.before.before
+module _ (n : tie.In_default-judged) where
+  abbrev m : tie.In_default
+  m = n.before.before
 
   ordered : none ≡ first (settings_checks (a m).args.height (a m).args.members ++ unbounded_checks (a m).args.height (a m).args.members (a m).args.sequence.now)
-  ordered = ap said_made (sym n.enum-told2.given.1) ∙ n.before.before.check-sequence.ensures.says
+  ordered = ap said_made (sym n.in_default-judged.is) ∙ n.check_sequence-judged.ensures.says
 
-file-requires : tie.Need-write-file-requires
+file-requires : tie.Need-write_file-requires
 file-requires c κs =
     let n = c.before in
     let s = (a (m n)).args in
     (climbs s.height s.members s.sequence.now (low-plate s.height s.members s.step s.cure.now (passes (m n))) (sequence-passes s.height s.members s.step s.cure.now s.sequence.now s.out.now (passes (m n)) (ordered n)), stepped s.height s.members s.step s.cure.now (passes (m n)))
 
-returns-3 : tie.Need-returns-3
+returns-3 : tie.Need-returns
 returns-3 c =
-    let w = c.before.before in
-    let n = w.before.before in
-    filed _ _ _ _ _ _ (passes (m n)) (ordered n) w.write-file.ensures
+    let w = c in
+    let n = w.before.before.before.before in
+    filed _ _ _ _ _ _ (passes (m n)) (ordered n) w.write_file.ensures
 
-pub write-orders-spec : {M : Type 1} → statement M
-write-orders-spec =
+pub write_orders_spec : {M : Type 1} → statement M
+write_orders_spec =
     tie.close
     (tie.spec
     (λ c κs. search rules)

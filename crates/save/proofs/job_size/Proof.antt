@@ -15,29 +15,30 @@ use Rattle.save.proofs.job_size.Statement.{statement}
 use Rattle.save.proofs.job_size.Tie as tie
 
 -- counts that were not refused, and their sum
-module _ (m : tie.After-tallied2) where
+
+module _ (m : tie.In-Done) where
   abbrev counts : List ℕ
-  counts = m.before.before.before.before.args.counts.now
+  counts = m.args.counts.now
 
-  tallied : (none ≡ first (count_checks counts)) × (m.tallied2.given.0.0 ≡ total counts)
-  tallied = told-value (count_checks counts) (total counts) _ (ap told (sym m.tallied2.given.1) ∙ m.before.before.tally.ensures)
+  tallied : (none ≡ first (count_checks counts)) × (m.in-Done.together ≡ total counts)
+  tallied = told-value (count_checks counts) (total counts) _ (ap told (sym m.in-Done.is) ∙ m.tally-tallied.ensures)
 
-size-requires : tie.Need-size-of-requires
-size-requires c κs = let m = c.before in let right = counts-right (counts m) (tallied m).0 in (right.few, omega (arith, (tallied m).1, right.together))
+size-requires : tie.Need-size_of-requires
+size-requires c κs = let m = c in let right = counts-right (counts m) (tallied m).0 in (right.few, omega (arith, (tallied m).1, right.together))
 
-returns : tie.Need-returns
+returns : tie.Need-returns-in-Refused
 unfolding size_answer
 returns c =
-    let list = c.before.before.before.before.before.args.counts.now in
+    let list = c.args.counts.now in
     ap (λ (o : Option Numbered). told_by o (file_size list))
-    (told-refusal (count_checks list) (total list) c.before.tallied.given.0.0 (ap told (sym c.before.tallied.given.1) ∙ c.before.before.before.tally.ensures))
+    (told-refusal (count_checks list) (total list) c.in-Refused.refusal (ap told (sym c.in-Refused.is) ∙ c.tally-tallied.ensures))
 
-returns-2 : tie.Need-returns-2
+returns-2 : tie.Need-returns-in-Done
 unfolding size_answer file_size
 returns-2 c =
-    let m = c.before.before in
-    let size : c.type_size.result ≡ file_size (counts m) = omega (arith, c.type_size.ensures, (tallied m).1) in
+    let m = c.before in
+    let size : c.size_of.result ≡ file_size (counts m) = omega (arith, c.size_of.ensures, (tallied m).1) in
     ap done size ∙ ap (λ (o : Option Numbered). told_by o (file_size (counts m))) (tallied m).0
 
-pub job-size-spec : {M : Type 1} → statement M
-job-size-spec = tie.close (tie.spec (λ c κs. search rules) (λ c. search rules) (λ c. search rules) size-requires returns returns-2)
+pub job_size_spec : {M : Type 1} → statement M
+job_size_spec = tie.close (tie.spec (λ c κs. search rules) (λ c. search rules) (λ c. search rules) size-requires returns returns-2)

@@ -18,43 +18,43 @@ use Rattle.save.proofs.Counts.{too_many, wrong-at, none-wrong}
 use Rattle.save.proofs.tally.Statement.{statement}
 use Rattle.save.proofs.tally.Tie as tie
 
-abbrev invariant-loop : tie.invariant-loop
+abbrev invariant-loop : tie.invariant-loop-k
 invariant-loop counts sum₀ k₀ sum k =
     (k ≤ length counts) × (sum ≡ total (take k counts)) × (sum ≤ 65535 * k) × (length counts ≤ most_columns) × ((j : ℕ) → j < k → wrong_count (get_or counts j 0) ≡ false)
 
-abbrev decreases-loop : tie.decreases-loop
+abbrev decreases-loop : tie.decreases-loop-k
 decreases-loop counts sum₀ k₀ sum k = length counts - k
 
-returns : tie.Need-returns invariant-loop decreases-loop
-returns c = let a = c.before.before.before.args in rw c.refusal-at.ensures (ap (λ (o : Option Numbered). told_by o (total a.counts.now)) (too_many a.counts.now (omega (arith, c.before.if1.true))))
+returns : tie.Need-returns-then-counts invariant-loop decreases-loop
+returns c = let a = c.args in rw c.refusal_at.ensures (ap (λ (o : Option Numbered). told_by o (total a.counts.now)) (too_many a.counts.now (omega (arith, c.if-counts.true))))
 
-loop-holds : tie.Need-loop-init invariant-loop decreases-loop
+loop-holds : tie.Need-loop-k-init invariant-loop decreases-loop
 unfolding total
-loop-holds c = (omega arith, refl, omega arith, omega (arith, c.if1.false), below_none _)
+loop-holds c = (omega arith, refl, omega arith, omega (arith, c.if-counts.false), below_none _)
 
-returns-2 : tie.Need-returns-2 invariant-loop decreases-loop
+returns-2 : tie.Need-returns-then-is_wrong_count invariant-loop decreases-loop
 returns-2 c =
-    let l = c.before.before.before.before.before.loop in
-    let a = c.before.before.before.before.before.before.before.before.args in
-    rw c.refusal-at2.ensures (ap (λ (o : Option Numbered). told_by o (total a.counts.now)) (wrong-at a.counts.now l.k l.invariant.3 (omega arith) l.invariant.4 (sym c.before.before.is-wrong-count.ensures ∙ c.before.if2.true)))
+    let l = c.loop-k in
+    let a = c.args in
+    rw c.refusal_at-then-is_wrong_count.ensures (ap (λ (o : Option Numbered). told_by o (total a.counts.now)) (wrong-at a.counts.now l.k l.invariant.3 (omega arith) l.invariant.4 (sym c.is_wrong_count.ensures ∙ c.if-is_wrong_count.true)))
 
-loop-again : tie.Need-loop-preserved invariant-loop decreases-loop
+loop-again : tie.Need-loop-k-preserved invariant-loop decreases-loop
 loop-again c =
-    let l = c.before.before.before.before.loop in
-    let a = c.before.before.before.before.before.before.before.args in
-    (omega arith, rw (l.invariant.1, add-one) (sym (total-more a.counts.now l.k (omega arith))), omega (arith, c.before.before.shared-slice-known2.given l.k), l.invariant.3, below_more _ _ l.invariant.4 (sym c.before.is-wrong-count.ensures ∙ c.if2.false))
+    let l = c.loop-k in
+    let a = c.args in
+    (omega arith, rw (l.invariant.1, add-one) (sym (total-more a.counts.now l.k (omega arith))), omega (arith, c.shared_slice_known-in-loop-k-1.given l.k), l.invariant.3, below_more _ _ l.invariant.4 (sym c.is_wrong_count.ensures ∙ c.if-is_wrong_count.false))
 
-returns-3 : tie.Need-returns-3 invariant-loop decreases-loop
+returns-3 : tie.Need-returns invariant-loop decreases-loop
 returns-3 c =
-    let l = c.before.loop in
-    let a = c.before.before.before.before.args in
+    let l = c.loop-k in
+    let a = c.args in
     let all : take l.k a.counts.now ≡ a.counts.now = take_all l.k a.counts.now (omega arith) in
     let sum = l.invariant.1 ∙ ap total all in
     let passes = none-wrong a.counts.now l.invariant.3 (λ j m. l.invariant.4 j (omega arith)) in
     ap done sum ∙ ap (λ (o : Option Numbered). told_by o (total a.counts.now)) passes
 
-pub tally-spec : {M : Type 1} → statement M
-tally-spec =
+pub tally_spec : {M : Type 1} → statement M
+tally_spec =
     tie.close
     (tie.spec
     invariant-loop
@@ -65,12 +65,12 @@ tally-spec =
     loop-holds
     (λ c. search rules)
     (λ c. search rules)
-    (λ c. omega (arith, c.shared-slice-known2.given c.before.before.loop.k))
+    (λ c. omega (arith, c.shared_slice_known-in-loop-k-1.given c.loop-k.k))
     (λ c κs. search rules)
     (λ c κs. search rules)
     returns-2
-    (λ c. omega (arith, c.before.before.shared-slice-known2.given c.before.before.before.before.loop.k))
-    (λ c. let l = c.before.before.before.before.loop in omega (arith, c.before.before.shared-slice-known2.given l.k, l.invariant.2, l.invariant.3))
+    (λ c. omega (arith, c.shared_slice_known-in-loop-k-1.given c.loop-k.k))
+    (λ c. let l = c.loop-k in omega (arith, c.shared_slice_known-in-loop-k-1.given l.k, l.invariant.2, l.invariant.3))
     (λ c. search rules)
     (λ c. search rules)
     loop-again

@@ -7,14 +7,14 @@ use Rattle.save.proofs.write_column.Tie as tie
 
 returns : tie.Need-returns
 returns c =
-    let second = c.before.before in
-    let first = second.before.before.before.before in
-    let a = first.before.before.before.before.before in
-    second.write-numbers2.ensures
-    ∙ column-laid a.args.column.now a.args.out.now first.write-numbers.new.0 a.args.at a.requires.1 first.write-numbers.ensures
+    let second = c in
+    let first = second in
+    let a = first in
+    second.write_numbers-2.ensures
+    ∙ column-laid a.args.column.now a.args.out.now first.write_numbers.new.out a.args.at a.requires.1 first.write_numbers.ensures
 
-pub write-column-spec : {M : Type 1} → statement M
-write-column-spec =
+pub write_column_spec : {M : Type 1} → statement M
+write_column_spec =
     tie.close
     (tie.spec
     (λ c. search rules)

@@ -17,7 +17,7 @@ use Rattle.save.proofs.Counts.{counts-right}
 use Rattle.save.proofs.write_columns.Statement.{statement}
 use Rattle.save.proofs.write_columns.Tie as tie
 
-abbrev invariant-loop : tie.invariant-loop
+abbrev invariant-loop : tie.invariant-loop-k
 invariant-loop out₀ at run counts start₀ next₀ k₀ out start next k =
     (k ≤ length counts)
     × (start ≡ total (take k counts))
@@ -26,49 +26,49 @@ invariant-loop out₀ at run counts start₀ next₀ k₀ out start next k =
     × (length out ≡ length out₀)
     × (out ≡ sets out₀ at (column_records (take k (columns_in counts run))))
 
-abbrev decreases-loop : tie.decreases-loop
+abbrev decreases-loop : tie.decreases-loop-k
 decreases-loop out₀ at run counts start₀ next₀ k₀ out start next k = length counts - k
 
 -- of the k-th column
-module _ (m : tie.After-shared-slice-known3 invariant-loop decreases-loop) where
+module _ (m : tie.After-shared_slice_known-in-loop-k-1 invariant-loop decreases-loop) where
   abbrev a : tie.Start invariant-loop decreases-loop
   a = m.before.before.before.before.before.before
 
   abbrev k : ℕ
-  k = m.before.before.loop.k
+  k = m.loop-k.k
 
   abbrev start : ℕ
-  start = m.before.before.loop.start
+  start = m.loop-k.start
 
   here : ColumnHere a.args.counts.now a.args.run.now k start
-  here = column-here a.args.counts.now a.args.run.now k start (omega arith) m.before.before.loop.inv.1 a.pre.1.0
+  here = column-here a.args.counts.now a.args.run.now k start (omega arith) m.loop-k.invariant.1 a.requires.1.0
 
   -- there is room for its record
-  room : m.before.before.loop.next + 4 + 2 * get_or a.args.counts.now k 0 ≤ length a.args.out.now
-  room = omega (arith, m.before.before.loop.inv.2, here.counted, a.pre.1.1)
+  room : m.loop-k.next + 4 + 2 * get_or a.args.counts.now k 0 ≤ length a.args.out.now
+  room = omega (arith, m.loop-k.invariant.2, here.counted, a.requires.1.1)
 
   low : get_or a.args.counts.now k 0 ≤ 64
-  low = (counts-right a.args.counts.now a.pre.0).low k (omega arith)
+  low = (counts-right a.args.counts.now a.requires.0).low k (omega arith)
 
-loop-holds : tie.Need-loop-init invariant-loop decreases-loop
+loop-holds : tie.Need-loop-k-init invariant-loop decreases-loop
 unfolding total column_records
 loop-holds c = (omega arith, refl, omega arith, omega arith, refl, refl)
 
-column-requires : tie.Need-write-column-requires invariant-loop decreases-loop
+column-requires : tie.Need-write_column-requires invariant-loop decreases-loop
 column-requires c κs =
     let m = c.before.before in
-    (omega (arith, (here m).long, low m), omega (arith, (here m).long, room m, m.before.before.loop.invariant.4))
+    (omega (arith, (here m).long, low m), omega (arith, (here m).long, room m, m.loop-k.invariant.4))
 
-loop-again : tie.Need-loop-preserved invariant-loop decreases-loop
+loop-again : tie.Need-loop-k-preserved invariant-loop decreases-loop
 loop-again c =
     let m = c.before.before.before.before.before in
-    let l = m.before.before.loop in
+    let l = m.loop-k in
     let columns = columns_in (a m).args.counts.now (a m).args.run.now in
     let records = column_records (take l.k columns) in
     let column = get_or columns l.k (column_of []) in
     let more = records-more columns l.k (omega (arith, length-columns_in (a m).args.counts.now (a m).args.run.now)) in
     let long : length (column_record column) ≡ 4 + 2 * get_or (a m).args.counts.now l.k 0 = omega (arith, length-column column, ap (λ (x : Column). length x.boundaries) (here m).is ∙ (here m).long) in
-    let stored = c.before.before.write-column.ensures ∙ ap (λ (x : Column). sets l.out l.next (column_record x)) (sym (here m).is) in (
+    let stored = c.write_column.ensures ∙ ap (λ (x : Column). sets l.out l.next (column_record x)) (sym (here m).is) in (
       omega arith,
       (here m).next,
       omega (arith, l.invariant.2),
@@ -81,13 +81,13 @@ loop-again c =
 
 returns : tie.Need-returns invariant-loop decreases-loop
 returns c =
-    let l = c.before.loop in
-    let a = c.before.before.before.before.before.args in
+    let l = c.loop-k in
+    let a = c.args in
     let columns = columns_in a.counts.now a.run.now in
     l.invariant.5 ∙ ap (λ (x : List Column). sets a.out.now a.at (column_records x)) (take_all l.k columns (omega (arith, length-columns_in a.counts.now a.run.now)))
 
-pub write-columns-spec : {M : Type 1} → statement M
-write-columns-spec =
+pub write_columns_spec : {M : Type 1} → statement M
+write_columns_spec =
     tie.close
     (tie.spec
     invariant-loop
@@ -95,7 +95,7 @@ write-columns-spec =
     loop-holds
     (λ c. search rules)
     (λ c. search rules)
-    (λ c. omega (arith, c.shared-slice-known3.given c.before.before.loop.k))
+    (λ c. omega (arith, c.shared_slice_known-in-loop-k-1.given c.loop-k.k))
     (λ c. omega (arith, (here c).within))
     (λ c. omega (arith, (here c.before).within))
     (λ c. omega arith)
@@ -109,5 +109,5 @@ write-columns-spec =
     (λ c. search rules)
     (λ c. search rules)
     loop-again
-    (λ c. c.before.loop.invariant.4)
+    (λ c. c.loop-k.invariant.4)
     returns)

@@ -17,70 +17,70 @@ use Rattle.save.proofs.Answers.{settings-low, run-passed, run-decides, file-left
 use Rattle.save.proofs.write_run.Statement.{statement}
 use Rattle.save.proofs.write_run.Tie as tie
 
-size-requires : tie.Need-size-of-requires
+size-requires : tie.Need-size_of-size-requires
 size-requires c κs =
-    let a = c.before.before.before in
+    let a = c in
     let right = counts-right a.args.counts.now a.requires.1.0 in
     (right.few, omega (arith, a.requires.1.1, right.together))
 
-run-requires : tie.Need-check-run-requires
+run-requires : tie.Need-check_run-checked-requires
 unfolding file_size
 run-requires c κs =
-    let a = c.before.before.before.before.before in
-    (a.requires.1.0, (a.requires.1.1, omega (arith, c.before.type_size.ensures, a.requires.1.1)))
+    let a = c in
+    (a.requires.1.0, (a.requires.1.1, omega (arith, c.size_of-size.ensures, a.requires.1.1)))
 
 -- past the checks on the run
-module _ (m : tie.After-check-run) where
+module _ (m : tie.After-check_run-checked) where
   abbrev a : tie.Start
   a = m.before.before.before.before.before.before
 
   abbrev call : Call ℕ (List ℕ)
   call = writing a.args.asked.height a.args.asked.members a.args.asked.bound a.args.run.now a.args.counts.now a.args.out.now
 
-  size_is : m.before.before.type_size.result ≡ file_size a.args.counts.now
+  size_is : m.size_of-size.result ≡ file_size a.args.counts.now
   unfolding file_size
-  size_is = omega (arith, m.before.before.type_size.ensures, a.pre.1.1)
+  size_is = omega (arith, m.size_of-size.ensures, a.requires.1.1)
 
   -- they decide
   decides : first (run_checks a.args.asked.height a.args.run.now a.args.counts.now (length a.args.out.now)) ≡ first call.checks
-  decides = run-decides a.args.asked.height a.args.asked.members a.args.asked.bound a.args.run.now a.args.counts.now a.args.out.now a.pre.0 a.pre.1.0
+  decides = run-decides a.args.asked.height a.args.asked.members a.args.asked.bound a.args.run.now a.args.counts.now a.args.out.now a.requires.0 a.requires.1.0
 
-  value : m.before.before.type_size.result ≡ call.value
+  value : m.size_of-size.result ≡ call.value
   unfolding writing
   value = size_is
 
-returns : tie.Need-returns
+returns : tie.Need-returns-in-Refused
 unfolding writing
-returns c = let m = c.before.before.before in refuses (call m) c.before.checked.given.0.0 (ap said_by (sym c.before.checked.given.1) ∙ m.check-run.ensures ∙ decides m)
+returns c = let m = c.before in refuses (call m) c.in-Refused.refusal (ap said_by (sym c.in-Refused.is) ∙ m.check_run-checked.ensures ∙ decides m)
 
 -- they passed
-module _ (m : tie.After-enum-told) where
-  abbrev checked : tie.After-check-run
-  checked = m.before.before
+module _ (m : tie.In_default) where
+  abbrev checked : tie.After-check_run-checked
+  checked = m.before
 
   passes : none ≡ first (run_checks (a checked).args.asked.height (a checked).args.run.now (a checked).args.counts.now (length (a checked).args.out.now))
-  passes = ap said_by (sym m.enum_told.given.1) ∙ checked.check-run.ensures
+  passes = ap said_by (sym m.in_default.is) ∙ checked.check_run-checked.ensures
 
   passed : (total (a checked).args.counts.now ≤ length (a checked).args.run.now) × (file_size (a checked).args.counts.now ≤ length (a checked).args.out.now)
   passed = run-passed (a checked).args.asked.height (a checked).args.run.now (a checked).args.counts.now (length (a checked).args.out.now) passes
 
-file-requires : tie.Need-write-file-requires
+file-requires : tie.Need-write_file-requires
 file-requires c κs =
     let m = c.before in
     let k = checked m in
     let p = passed m in
-    (settings-low (a k).args.asked.height (a k).args.asked.members (a k).pre.0, ((a k).pre.1.0, (p.0, (size_is k, omega (arith, size_is k, p.1)))))
+    (settings-low (a k).args.asked.height (a k).args.asked.members (a k).requires.0, ((a k).requires.1.0, (p.0, (size_is k, omega (arith, size_is k, p.1)))))
 
-returns-2 : tie.Need-returns-2
+returns-2 : tie.Need-returns
 returns-2 c =
     let m = c.before.before.before.before in
     let k = checked m in
     let g = (a k).args in
     let left = file-left g.asked.height g.asked.members g.asked.bound g.run.now g.counts.now g.out.now (passed m).0 (passed m).1 in
-    works (call k) _ _ (passes m ∙ decides k) (value k) (c.before.before.write-file.ensures ∙ left)
+    works (call k) _ _ (passes m ∙ decides k) (value k) (c.write_file.ensures ∙ left)
 
-pub write-run-spec : {M : Type 1} → statement M
-write-run-spec =
+pub write_run_spec : {M : Type 1} → statement M
+write_run_spec =
     tie.close
     (tie.spec
     size-requires

@@ -8,15 +8,15 @@ use Rattle.save.proofs.write_settings.Tie as tie
 
 returns : tie.Need-returns
 returns c =
-    let w = c.before.before in
-    let a = w.before.before.before.before.before.before.before.before.before in
-    w.write-numbers.ensures ∙ settings-laid a.args.asked a.args.out.now a.requires.1
+    let w = c in
+    let a = w in
+    w.write_numbers.ensures ∙ settings-laid a.args.asked a.args.out.now a.requires.1
 
-pub write-settings-spec : {M : Type 1} → statement M
-write-settings-spec =
+pub write_settings_spec : {M : Type 1} → statement M
+write_settings_spec =
     tie.close
     (tie.spec
-    (λ c. let a = c.before.before in omega (arith, a.requires.0))
+    (λ c. let a = c in omega (arith, a.requires.0))
     (λ c. search rules)
     (λ c. search rules)
     (λ c. search rules)
