@@ -9,7 +9,7 @@ use mathlib.Core.Option.{some}
 use lib.Dec.{eqb}
 use lib.ListN.{length}
 use Rattle.lists.specs.Checks.{Check, first}
-use Rattle.paper.specs.Layer.{Column}
+use Rattle.paper.specs.Layer.{Column, column_of}
 use Rattle.plate.specs.Head.{held_in}
 use Rattle.plate.specs.Refusal.{Told, done, refused, Numbered, check, told_by, decided}
 use Rattle.plate.specs.Call.{answer_of}
@@ -17,6 +17,7 @@ use Rattle.plate.specs.Settings.{settings_checks}
 use Rattle.plate.specs.declared.head.Head.{Head}
 use Rattle.column.specs.Order.{column_checks}
 use Rattle.table.specs.Table.{short}
+use Rattle.record.specs.Bytes.{words}
 use Rattle.record.specs.Frame.{length_at, kind_at}
 use Rattle.record.specs.Faults.{tail, frame_checks}
 use Rattle.job.specs.State.{start_state}
@@ -127,7 +128,7 @@ module _ (most : ℕ) (s : List ℕ) where
   over-before at m (done (settings a)) rest before e =
       collapse-unless most at a (rest m.state m.next) ∙ ap (unless (first (too_large most at a))) (e m.state m.next)
   over-before at m (done (column from count)) rest before e =
-      collapse-behind _ (rest m.state m.next) ∙ ap (behind _) (e m.state m.next)
+      collapse-behind (column_of (words s from count) ∷ []) (rest m.state m.next) ∙ ap (behind (column_of (words s from count) ∷ [])) (e m.state m.next)
   over-before at m (done (ended columns)) rest before e = refl
   over-before at m (done remark) rest before e = e m.state m.next
   over-before at m (refused number place) rest before e = refl

@@ -276,6 +276,10 @@ module _ (most : ℕ) where
       step s known next kinds (kind_at s known.at) o (passed-frame reader s known e).allows
       (follows s r)
 
+  kind-test : (s : List ℕ) {known : Standing} {kinds : List ℕ} → Reached reader s known kinds → (number : ℕ)
+      → reader.allows known number ≡ job_allows kinds number
+  kind-test s {known} r number = test-by-begun known.state number ∙ sym (follows s r number)
+
   pub job-lawful : Lawful reader job_allows
   job-lawful = record {
     own-numbers = λ s known r e. own-numbers s known (record_kind s known.at) r e;
@@ -290,5 +294,5 @@ module _ (most : ℕ) where
     next_place = λ s known next f g. place-behind s known next (record_kind s known.at) g.onward;
     last = λ s known f e o. end-last s known (record_kind s known.at) f e o;
     unknown = λ known number. unknown-barred known.state number;
-    kind-test = λ s r number. test-by-begun _ number ∙ sym (follows s r number);
+    kind-test = kind-test;
   }

@@ -6,8 +6,8 @@ use lib.Seq.{set_out}
 use Rattle.cases.proofs.change.Statement.{statement}
 use Rattle.cases.proofs.change.Tie as tie
 
-pub change-spec : {M : Type 1} → statement M
-change-spec =
+pub change_spec : {M : Type 1} → statement M
+change_spec =
     tie.close
     (tie.spec
     (λ c. search rules)

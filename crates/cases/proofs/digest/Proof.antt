@@ -10,10 +10,10 @@ use Rattle.cases.specs.Cases.{digest_with, digest_of}
 use Rattle.cases.proofs.digest.Statement.{statement}
 use Rattle.cases.proofs.digest.Tie as tie
 
-abbrev invariant-loop : tie.invariant-loop
+abbrev invariant-loop : tie.invariant-loop-i
 invariant-loop output size digest₀ i₀ digest i = (i ≤ min size (length output)) × (digest ≡ digest_of output i)
 
-abbrev decreases-loop : tie.decreases-loop
+abbrev decreases-loop : tie.decreases-loop-i
 decreases-loop output size digest₀ i₀ digest i = length output - i
 
 none : (l : List ℕ) → 0 ≡ digest_of l 0
@@ -27,8 +27,8 @@ more l d i e = let q : suc i ≡ i + 1 = omega arith in ap (λ (x : ℕ). digest
 all : (l : List ℕ) (d i n : ℕ) → d ≡ digest_of l i → i ≤ n → n ≤ i → d ≡ digest_of l n
 all l d i n e u v = let q : i ≡ n = omega arith in e ∙ ap (digest_of l) q
 
-pub digest-spec : {M : Type 1} → statement M
-digest-spec =
+pub digest_spec : {M : Type 1} → statement M
+digest_spec =
     tie.close
     (tie.spec
     invariant-loop
@@ -39,6 +39,6 @@ digest-spec =
     (λ c κs. search rules)
     (λ c. search rules)
     (λ c. search rules)
-    (λ c. (omega (arith, ltb-true), c.digested.ensures ∙ ap (digest_with _) c.before.wide.ensures ∙ more _ _ _ c.before.before.before.before.before.loop.invariant.1))
-    (λ c. all _ _ _ _ c.before.before.loop.invariant.1 (omega arith) (omega (arith, ltb-false)))
-    (λ c. all _ _ _ _ c.before.loop.invariant.1 (omega arith) (omega arith)))
+    (λ c. (omega (arith, ltb-true), c.digested-digest.ensures ∙ ap (digest_with _) c.wide.ensures ∙ more _ _ _ c.loop-i.invariant.1))
+    (λ c. all _ _ _ _ c.loop-i.invariant.1 (omega arith) (omega (arith, ltb-false)))
+    (λ c. all _ _ _ _ c.loop-i.invariant.1 (omega arith) (omega arith)))

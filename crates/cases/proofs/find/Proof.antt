@@ -8,10 +8,10 @@ use lib.ListN.{length, get_or}
 use Rattle.cases.proofs.find.Statement.{statement}
 use Rattle.cases.proofs.find.Tie as tie
 
-abbrev invariant-loop : tie.invariant-loop
+abbrev invariant-loop : tie.invariant-loop-i
 invariant-loop line from character i₀ i = (from ≤ i) × ((k : ℕ) → k < i → from ≤ k → get_or line k 0 ≡ character → ⊥)
 
-abbrev decreases-loop : tie.decreases-loop
+abbrev decreases-loop : tie.decreases-loop-i
 decreases-loop line from character i₀ i = length line - i
 
 pub find_spec : {M : Type 1} → statement M
@@ -22,8 +22,8 @@ find_spec =
     decreases-loop
     (λ c. (search rules, λ k l m. absurd (omega arith)))
     (λ c. search rules)
-    (λ c. (search rules, ((λ l. c.if1.true), λ k m l. c.before.before.before.loop.invariant.1 k l m)))
+    (λ c. (search rules, ((λ l. c.if-line-i.true), λ k m l. c.loop-i.invariant.1 k l m)))
     (λ c. search rules)
     (λ c. search rules)
-    (λ c. (search rules, below_more _ _ c.before.before.before.loop.invariant.1 (λ m. c.if1.false)))
-    (λ c. (search rules, ((λ l. absurd (omega arith)), λ k m l. c.before.loop.invariant.1 k (omega arith) m))))
+    (λ c. (search rules, below_more _ _ c.loop-i.invariant.1 (λ m. c.if-line-i.false)))
+    (λ c. (search rules, ((λ l. absurd (omega arith)), λ k m l. c.loop-i.invariant.1 k (omega arith) m))))

@@ -6,10 +6,10 @@ use lib.Seq.{length-take-le, take_all}
 use Rattle.cases.proofs.front.Statement.{statement}
 use Rattle.cases.proofs.front.Tie as tie
 
-pub front-spec : {M : Type 1} → statement M
-front-spec =
+pub front_spec : {M : Type 1} → statement M
+front_spec =
     tie.close
     (tie.spec
     (λ c. sym (length-take-le _ _ (search rules)))
     (λ c. search rules)
-    (λ c. sym (take_all c.before.args.size c.before.args.output.now (omega arith))))
+    (λ c. sym (take_all c.args.size c.args.output.now (omega arith))))

@@ -5,13 +5,13 @@ use native.Mathlib.Omega.{arith}
 use Rattle.cases.proofs.hex_digit.Statement.{statement}
 use Rattle.cases.proofs.hex_digit.Tie as tie
 
-pub hex-digit-spec : {M : Type 1} → statement M
-hex-digit-spec =
+pub hex_digit_spec : {M : Type 1} → statement M
+hex_digit_spec =
     tie.close
     (tie.spec
     (λ c. search rules)
-    (λ c. let x = c.before.before.args.character in simp (le-leb 48 x (omega arith), le-leb x 57 (omega arith)))
-    (λ c. let x = c.before.before.before.before.args.character in simp (le-leb 48 x (omega arith), lt-leb x 57 (omega arith), le-leb 65 x (omega arith), le-leb x 70 (omega arith)))
-    (λ c. let x = c.before.args.character in simp (lt-leb 48 x (omega arith)))
-    (λ c. let x = c.before.before.before.args.character in simp (le-leb 48 x (omega arith), lt-leb x 57 (omega arith), lt-leb 65 x (omega arith)))
-    (λ c. let x = c.before.before.before.before.args.character in simp (le-leb 48 x (omega arith), lt-leb x 57 (omega arith), le-leb 65 x (omega arith), lt-leb x 70 (omega arith))))
+    (λ c. let x = c.args.character in simp (le-leb 48 x (omega arith), le-leb x 57 (omega arith)))
+    (λ c. let x = c.args.character in simp (le-leb 48 x (omega arith), lt-leb x 57 (omega arith), le-leb 65 x (omega arith), le-leb x 70 (omega arith)))
+    (λ c. let x = c.args.character in simp (lt-leb 48 x (omega arith)))
+    (λ c. let x = c.args.character in simp (le-leb 48 x (omega arith), lt-leb x 57 (omega arith), lt-leb 65 x (omega arith)))
+    (λ c. let x = c.args.character in simp (le-leb 48 x (omega arith), lt-leb x 57 (omega arith), le-leb 65 x (omega arith), lt-leb x 70 (omega arith))))

@@ -9,10 +9,10 @@ use Rattle.cases.specs.Cases.{Laid, laid, with_next, laid_by}
 use Rattle.cases.proofs.lay.Statement.{statement}
 use Rattle.cases.proofs.lay.Tie as tie
 
-abbrev invariant-loop : tie.invariant-loop
+abbrev invariant-loop : tie.invariant-loop-i
 invariant-loop given₀ words halves₀ i₀ given halves i = ((i ≤ length words) × (length given ≡ length given₀)) × (laid given halves ≡ laid_by words i given₀)
 
-abbrev decreases-loop : tie.decreases-loop
+abbrev decreases-loop : tie.decreases-loop-i
 decreases-loop given₀ words halves₀ i₀ given halves i = length words - i
 
 none : (words held : List ℕ) → laid held 0 ≡ laid_by words 0 held
@@ -28,8 +28,8 @@ more words held l i e =
 all : (words held : List ℕ) (l : Laid) (i : ℕ) → l ≡ laid_by words i held → i ≤ length words → length words ≤ i → l ≡ laid_by words (length words) held
 all words held l i e u v = let q : i ≡ length words = omega arith in e ∙ ap (λ (n : ℕ). laid_by words n held) q
 
-pub lay-spec : {M : Type 1} → statement M
-lay-spec =
+pub lay_spec : {M : Type 1} → statement M
+lay_spec =
     tie.close
     (tie.spec
     invariant-loop
@@ -39,6 +39,6 @@ lay-spec =
     (λ c κs. search rules)
     (λ c. search rules)
     (λ c. search rules)
-    (λ c. (search rules, c.before.before.lay-next.ensures ∙ more _ _ _ _ c.before.before.before.before.before.before.loop.invariant.1))
+    (λ c. (search rules, c.lay_next-halves.ensures ∙ more _ _ _ _ c.loop-i.invariant.1))
     (λ c. search rules)
-    (λ c. let e = all _ _ _ _ c.before.loop.invariant.1 (omega arith) (omega arith) in (ap (λ (l : Laid). l.held) e, ap (λ (l : Laid). l.halves / 2) e)))
+    (λ c. let e = all _ _ _ _ c.loop-i.invariant.1 (omega arith) (omega arith) in (ap (λ (l : Laid). l.held) e, ap (λ (l : Laid). l.halves / 2) e)))

@@ -5,11 +5,11 @@ use Rattle.cases.specs.Cases.{with_half}
 use Rattle.cases.proofs.lay_byte.Statement.{statement}
 use Rattle.cases.proofs.lay_byte.Tie as tie
 
-pub lay-byte-spec : {M : Type 1} → statement M
-lay-byte-spec =
+pub lay_byte_spec : {M : Type 1} → statement M
+lay_byte_spec =
     tie.close
     (tie.spec
     (λ c κs. search rules)
     (λ c κs. search rules)
     (λ c. search rules)
-    (λ c. c.before.before.lay-half2.ensures ∙ ap (with_half _) c.before.before.before.before.before.before.lay-half.ensures))
+    (λ c. c.lay_half.ensures ∙ ap (with_half _) c.lay_half-first.ensures))

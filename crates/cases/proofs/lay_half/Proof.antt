@@ -5,8 +5,8 @@ use Rattle.cases.specs.Cases.{with_half}
 use Rattle.cases.proofs.lay_half.Statement.{statement}
 use Rattle.cases.proofs.lay_half.Tie as tie
 
-pub lay-half-spec : {M : Type 1} → statement M
-lay-half-spec =
+pub lay_half_spec : {M : Type 1} → statement M
+lay_half_spec =
     tie.close
     (tie.spec
     (λ c. search rules)
@@ -15,6 +15,6 @@ lay-half-spec =
     (λ c. search rules)
     (λ c. search rules)
     (λ c. search rules)
-    (λ c. unfold with_half in simp (lt-ltb _ _ c.before.before.if1.true, lt-ltb _ _ c.before.if2.true))
-    (λ c. unfold with_half in simp (lt-ltb _ _ c.before.if1.true, le-ltb _ _ c.if2.false))
-    (λ c. unfold with_half in simp (le-ltb _ _ c.if1.false)))
+    (λ c. unfold with_half in simp (lt-ltb _ _ c.if-half-lt16.true, lt-ltb _ _ c.if-k-given.true))
+    (λ c. unfold with_half in simp (lt-ltb _ _ c.if-half-lt16.true, le-ltb _ _ c.if-k-given.false))
+    (λ c. unfold with_half in simp (le-ltb _ _ c.if-half-lt16.false)))

@@ -6,10 +6,10 @@ use lib.ListN.{get_or-eq_default}
 use Rattle.cases.proofs.letter.Statement.{statement}
 use Rattle.cases.proofs.letter.Tie as tie
 
-pub letter-spec : {M : Type 1} → statement M
-letter-spec =
+pub letter_spec : {M : Type 1} → statement M
+letter_spec =
     tie.close
     (tie.spec
-    (λ c. sym (get_or-eq_default c.before.args.line.now 0 {n = c.before.args.place} (omega arith)))
+    (λ c. sym (get_or-eq_default c.args.line.now 0 {n = c.args.place} (omega arith)))
     (λ c. search rules)
     (λ c. search rules))

@@ -4,12 +4,12 @@ use borrow.Author.Tests.{le-leb, lt-leb}
 use Rattle.cases.proofs.part.Statement.{statement}
 use Rattle.cases.proofs.part.Tie as tie
 
-pub part-spec : {M : Type 1} → statement M
-part-spec =
+pub part_spec : {M : Type 1} → statement M
+part_spec =
     tie.close
     (tie.spec
     (λ c. search rules)
     (λ c. search rules)
-    (λ c. simp (le-leb _ _ c.before.before.if1.true, le-leb _ _ c.before.if2.true))
-    (λ c. simp (le-leb _ _ c.before.if1.true, lt-leb _ _ c.if2.false))
-    (λ c. simp (lt-leb _ _ c.if1.false)))
+    (λ c. simp (le-leb _ _ c.if-from-to.true, le-leb _ _ c.if-to-bytes.true))
+    (λ c. simp (le-leb _ _ c.if-from-to.true, lt-leb _ _ c.if-to-bytes.false))
+    (λ c. simp (lt-leb _ _ c.if-from-to.false)))

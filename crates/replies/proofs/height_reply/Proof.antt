@@ -4,12 +4,12 @@ use Rattle.replies.proofs.Replies.{height-refused, height-done}
 use Rattle.replies.proofs.height_reply.Statement.{statement}
 use Rattle.replies.proofs.height_reply.Tie as tie
 
-pub height-reply-spec : {M : Type 1} → statement M
-height-reply-spec =
+pub height_reply_spec : {M : Type 1} → statement M
+height_reply_spec =
     tie.close
     (tie.spec
     (λ c. search rules)
     (λ c. search rules)
     (λ c κs. search rules)
-    (λ c. height-done _ _ c.before.lifted.given.1)
-    (λ c. height-refused _ c.before.before.lifted2.given.0.0 c.number.ensures _ c.before.before.lifted2.given.1))
+    (λ c. height-done _ _ c.in-Done.is)
+    (λ c. height-refused _ c.in-Refused.refusal c.number.ensures _ c.in-Refused.is))

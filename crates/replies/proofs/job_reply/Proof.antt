@@ -4,13 +4,13 @@ use Rattle.replies.proofs.Replies.{job-refused, job-done}
 use Rattle.replies.proofs.job_reply.Statement.{statement}
 use Rattle.replies.proofs.job_reply.Tie as tie
 
-pub job-reply-spec : {M : Type 1} → statement M
-job-reply-spec =
+pub job_reply_spec : {M : Type 1} → statement M
+job_reply_spec =
     tie.close
     (tie.spec
     (λ c. search rules)
     (λ c. search rules)
     (λ c κs. search rules)
     (λ c κs. search rules)
-    (λ c. job-done c.before.before.loaded.given.0.0 _ c.before.before.loaded.given.1)
-    (λ c. job-refused _ c.before.before.before.loaded2.given.0.0 c.before.number.ensures _ c.cleared.ensures _ c.before.before.before.loaded2.given.1))
+    (λ c. job-done c.in-Done.load _ c.in-Done.is)
+    (λ c. job-refused _ c.in-Refused.fault c.number.ensures _ c.cleared.ensures _ c.in-Refused.is))

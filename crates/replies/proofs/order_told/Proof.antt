@@ -5,8 +5,8 @@ use Rattle.replies.proofs.Replies.{order-told}
 use Rattle.replies.proofs.order_told.Statement.{statement}
 use Rattle.replies.proofs.order_told.Tie as tie
 
-pub order-told-spec : {M : Type 1} → statement M
-order-told-spec =
+pub order_told_spec : {M : Type 1} → statement M
+order_told_spec =
     tie.close
     (tie.spec
     (λ c. search rules)
@@ -15,6 +15,6 @@ order-told-spec =
     (λ c. search rules)
     (λ c. search rules)
     (λ c. search rules)
-    (λ c. order-told _ _ c.before.order.given.1 _ refl)
-    (λ c. order-told _ _ c.before.order2.given.1 _ refl)
-    (λ c. order-told _ _ c.before.order3.given.1 _ refl))
+    (λ c. order-told _ _ c.in-Lift.is _ refl)
+    (λ c. order-told _ _ c.in-Cure.is _ refl)
+    (λ c. order-told _ _ c.in-Finish.is _ refl))

@@ -7,5 +7,5 @@ use Rattle.replies.specs.Replies.{reply}
 use Rattle.replies.proofs.refused_reply.Statement.{statement}
 use Rattle.replies.proofs.refused_reply.Tie as tie
 
-pub refused-reply-spec : {M : Type 1} → statement M
-refused-reply-spec = tie.close (tie.spec (λ c κs. search rules) (λ c. ap (λ (n : ℕ). reply (refused n c.before.args.bad.place)) c.number.ensures))
+pub refused_reply_spec : {M : Type 1} → statement M
+refused_reply_spec = tie.close (tie.spec (λ c κs. search rules) (λ c. ap (λ (n : ℕ). reply (refused n c.args.bad.place)) c.number.ensures))

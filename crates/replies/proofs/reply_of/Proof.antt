@@ -8,12 +8,12 @@ use Rattle.replies.proofs.Replies.{reply-done}
 use Rattle.replies.proofs.reply_of.Statement.{statement}
 use Rattle.replies.proofs.reply_of.Tie as tie
 
-pub reply-of-spec : {M : Type 1} → statement M
-reply-of-spec =
+pub reply_of_spec : {M : Type 1} → statement M
+reply_of_spec =
     tie.close
     (tie.spec
     (λ c. search rules)
     (λ c. search rules)
     (λ c κs. search rules)
-    (λ c. reply-done _ _ c.before.answer.given.1)
-    (λ c. c.refused-reply.ensures ∙ sym (ap (λ (x : Answer). reply (told x)) c.before.before.answer2.given.1)))
+    (λ c. reply-done _ _ c.in-Done.is)
+    (λ c. c.refused_reply.ensures ∙ sym (ap (λ (x : Answer). reply (told x)) c.in-Refused.is)))

@@ -4,13 +4,13 @@ use Rattle.replies.proofs.Replies.{table-refused, table_done}
 use Rattle.replies.proofs.table_reply.Statement.{statement}
 use Rattle.replies.proofs.table_reply.Tie as tie
 
-pub table-reply-spec : {M : Type 1} → statement M
-table-reply-spec =
+pub table_reply_spec : {M : Type 1} → statement M
+table_reply_spec =
     tie.close
     (tie.spec
     (λ c. search rules)
     (λ c. search rules)
     (λ c κs. search rules)
     (λ c κs. search rules)
-    (λ c. table_done c.before.tabled.given.0.0 _ c.before.tabled.given.1)
-    (λ c. table-refused _ c.before.before.before.tabled2.given.0.0 c.before.number.ensures _ c.cleared.ensures _ c.before.before.before.tabled2.given.1))
+    (λ c. table_done c.in-Done.head _ c.in-Done.is)
+    (λ c. table-refused _ c.in-Refused.refusal c.number.ensures _ c.cleared.ensures _ c.in-Refused.is))

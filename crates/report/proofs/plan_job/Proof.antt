@@ -7,24 +7,24 @@ use Rattle.report.proofs.Whole.{long-is, short-is, prints}
 use Rattle.report.proofs.plan_job.Statement.{statement}
 use Rattle.report.proofs.plan_job.Tie as tie
 
-returns : tie.Need-returns
+returns : tie.Need-returns-then-count-gt-MOST
 returns c =
-    let a = c.before.before.before.before.args in
-    let wide = c.before.before.before.all.given.0 in
-    prints a.input.now a.count _ wide c.before.put-refused-arg.given.0.1 _ _ _ long-fits c.Put-refused.ensures (long-is _ (omega (arith, length-take a.count a.input.now)))
+    let a = c.args in
+    let wide = c.all-1.given in
+    prints a.input.now a.count _ wide c.put_refused-arg-1.given.0.1 _ _ _ long-fits c.put_refused.ensures (long-is _ (omega (arith, length-take a.count a.input.now)))
 
-returns-2 : tie.Need-returns-2
+returns-2 : tie.Need-returns
 returns-2 c =
-    let a = c.before.before.before.before.before.args in
-    let wide = c.before.before.before.before.all.given.0 in
-    prints a.input.now a.count _ wide c.before.put-job-arg2.given.0.1 _ _ _ c.put-job.ensures.1 c.put-job.ensures.0 (short-is _ (omega (arith, length-take a.count a.input.now)))
+    let a = c.args in
+    let wide = c.all-1.given in
+    prints a.input.now a.count _ wide c.put_job-arg-1.given.0.1 _ _ _ c.put_job.ensures.1 c.put_job.ensures.0 (short-is _ (omega (arith, length-take a.count a.input.now)))
 
-pub plan-job-spec : {M : Type 1} → statement M
-plan-job-spec =
+pub plan_job_spec : {M : Type 1} → statement M
+plan_job_spec =
     tie.close
     (tie.spec
     (λ c κs. search rules)
     returns
-    (λ c. let a = c.before.before.before.args in omega (arith, c.before.before.all.given.0, length-take a.count a.input.now))
+    (λ c. let a = c.args in omega (arith, c.all-1.given, length-take a.count a.input.now))
     (λ c κs. search rules)
     returns-2)

@@ -11,26 +11,26 @@ use Rattle.report.proofs.Boundaries.{boundary-next, boundary_end}
 use Rattle.report.proofs.put_boundaries.Statement.{statement}
 use Rattle.report.proofs.put_boundaries.Tie as tie
 
-abbrev invariant-loop : tie.invariant-loop
+abbrev invariant-loop : tie.invariant-loop-i
 invariant-loop out₀ at sequence count next₀ i₀ out next i =
     (length out ≡ length out₀) × (i ≤ count) × (put (boundaries_text (drop i (take count sequence))) (sink next out) ≡ put (boundaries_text (take count sequence)) (sink at out₀))
 
-abbrev decreases-loop : tie.decreases-loop
+abbrev decreases-loop : tie.decreases-loop-i
 decreases-loop out₀ at sequence count next₀ i₀ out next i = count - i
 
-loop-again : tie.Need-loop-preserved invariant-loop decreases-loop
+loop-again : tie.Need-loop-i-preserved invariant-loop decreases-loop
 loop-again c =
-    let l = c.before.before.before.before.before.loop in
-    let a = c.before.before.before.before.before.before.before.args in (
+    let l = c.loop-i in
+    let a = c.args in (
       search rules,
       omega arith,
-      ap (put (boundaries_text (drop (l.i + 1) (take a.count a.sequence.now)))) c.before.before.put-boundary.ensures
-          ∙ boundary-next a.sequence.now a.count l.i (sink l.next l.out) c.before.before.before.before.before.before.before.requires c.before.before.before.before.loop-test.true
+      ap (put (boundaries_text (drop (l.i + 1) (take a.count a.sequence.now)))) c.put_boundary-next.ensures
+          ∙ boundary-next a.sequence.now a.count l.i (sink l.next l.out) c.requires c.loop-i-test.true
           ∙ l.invariant.2,
     )
 
-pub put-boundaries-spec : {M : Type 1} → statement M
-put-boundaries-spec =
+pub put_boundaries_spec : {M : Type 1} → statement M
+put_boundaries_spec =
     tie.close
     (tie.spec
     invariant-loop
@@ -41,4 +41,4 @@ put-boundaries-spec =
     (λ c. search rules)
     loop-again
     (λ c. search rules)
-    (λ c. boundary_end _ _ c.before.loop.i _ c.loop-test.false ∙ c.before.loop.invariant.2))
+    (λ c. boundary_end _ _ c.loop-i.i _ c.loop-i-test.false ∙ c.loop-i.invariant.2))

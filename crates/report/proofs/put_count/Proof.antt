@@ -3,5 +3,5 @@ use borrow.Author.Rules.{rules}
 use Rattle.report.proofs.put_count.Statement.{statement}
 use Rattle.report.proofs.put_count.Tie as tie
 
-pub put-count-spec : {M : Type 1} → statement M
-put-count-spec = tie.close (tie.spec (λ c. search rules) (λ c κs. search rules) (λ c. search rules) (λ c. c.before.before.before.put-read.ensures))
+pub put_count_spec : {M : Type 1} → statement M
+put_count_spec = tie.close (tie.spec (λ c. search rules) (λ c κs. search rules) (λ c. search rules) (λ c. c.put_read.ensures))

@@ -8,22 +8,22 @@ use Rattle.report.proofs.Planned.{load-refused, load-done}
 use Rattle.report.proofs.put_file.Statement.{statement}
 use Rattle.report.proofs.put_file.Tie as tie
 
-returns : tie.Need-returns
+returns : tie.Need-returns-in-Refused
 returns c =
-    let a = c.before.before.before.before.before.before.before.before.before.before.before.before.before.before.args in
-    let e = c.before.before.before.before.before.before.before.before.before.read-job.ensures in
-    c.before.before.put-refusal.ensures
-    ∙ ap (λ (t : List ℕ). put t (sink 0 a.out.now)) (load-refused _ _ _ _ e c.before.before.before.before.before.loaded.given.0.0 c.before.before.before.before.before.loaded.given.1)
+    let a = c.args in
+    let e = c.read_job-loaded.ensures in
+    c.put_refusal.ensures
+    ∙ ap (λ (t : List ℕ). put t (sink 0 a.out.now)) (load-refused _ _ _ _ e c.in-Refused.refusal c.in-Refused.is)
 
-returns-2 : tie.Need-returns-2
+returns-2 : tie.Need-returns-in-Done
 returns-2 c =
-    let a = c.before.before.before.before.before.before.before.before.before.before.before.before.before.before.before.args in
-    let e = c.before.before.before.before.before.before.before.before.before.before.read-job.ensures in
-    c.before.before.put-load.ensures
-    ∙ ap (λ (t : List ℕ). put t (sink 0 a.out.now)) (load-done _ _ _ _ e _ c.before.before.before.before.before.before.loaded2.given.1)
+    let a = c.args in
+    let e = c.read_job-loaded.ensures in
+    c.put_load.ensures
+    ∙ ap (λ (t : List ℕ). put t (sink 0 a.out.now)) (load-done _ _ _ _ e _ c.in-Done.is)
 
-pub put-file-spec : {M : Type 1} → statement M
-put-file-spec =
+pub put_file_spec : {M : Type 1} → statement M
+put_file_spec =
     tie.close
     (tie.spec
     (λ c κs. search rules)

@@ -13,9 +13,9 @@ use Rattle.report.proofs.put_job.Tie as tie
 
 returns : tie.Need-returns
 returns c =
-    let a = c.before.before.before.before.before.before.before.before.args in
-    let byte : Bytes a.input.now = (λ i. omega (arith, c.before.before.before.before.before.before.before.shared-slice-known.given i)) in
-    (c.before.before.before.put-file.ensures ∙ ap (λ (t : List ℕ). put t (sink 0 a.out.now)) (printed _ byte), file-fits _ byte)
+    let a = c.args in
+    let byte : Bytes a.input.now = (λ i. omega (arith, c.shared_slice_known-1.given i)) in
+    (c.put_file.ensures ∙ ap (λ (t : List ℕ). put t (sink 0 a.out.now)) (printed _ byte), file-fits _ byte)
 
-pub put-job-spec : {M : Type 1} → statement M
-put-job-spec = tie.close (tie.spec (λ c. search rules) (λ c κs. search rules) (λ c. search rules) returns)
+pub put_job_spec : {M : Type 1} → statement M
+put_job_spec = tie.close (tie.spec (λ c. search rules) (λ c κs. search rules) (λ c. search rules) returns)

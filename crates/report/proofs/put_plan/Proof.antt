@@ -9,32 +9,32 @@ use Rattle.report.proofs.Planned.{plan-refused, plan-done, counted}
 use Rattle.report.proofs.put_plan.Statement.{statement}
 use Rattle.report.proofs.put_plan.Tie as tie
 
-cast-put-sheets : tie.Need-overflow-cast-put-sheets
+cast-put-sheets : tie.Need-overflow_cast-counts
 cast-put-sheets c =
-    let e = c.before.before.before.before.before.before.before.before.before.before.plan.ensures in
-    record { fits = omega (arith, counted _ _ _ _ _ e _ c.before.before.answer2.given.1, c.before.before.before.before.before.before.before.before.before.before.before.before.before.before.before.before.before.before.before.before.requires) }
+    let e = c.plan-answer.ensures in
+    record { fits = omega (arith, counted _ _ _ _ _ e _ c.in-Done.is, c.requires) }
 
-put-sheets-requires : tie.Need-put-sheets-requires
+put-sheets-requires : tie.Need-put_sheets-requires
 put-sheets-requires c κs =
-    let e = c.before.before.before.before.before.before.before.before.before.before.before.before.plan.ensures in
-    omega (arith, counted _ _ _ _ _ e _ c.before.before.before.before.answer2.given.1, c.before.before.before.before.before.before.before.before.before.before.before.before.before.before.before.before.before.before.before.before.before.before.requires)
+    let e = c.plan-answer.ensures in
+    omega (arith, counted _ _ _ _ _ e _ c.in-Done.is, c.requires)
 
-returns : tie.Need-returns
+returns : tie.Need-returns-in-Refused
 returns c =
-    let a = c.before.before.before.before.before.before.before.before.before.before.before.before.before.before.before.before.before.before.before.before.before.before.before.args in
-    let e = c.before.before.before.before.before.before.before.before.before.before.before.before.before.plan.ensures in
-    c.before.before.put-refusal.ensures
-    ∙ ap (λ (t : List ℕ). put t (sink 0 a.out.now)) (plan-refused _ _ _ _ _ e c.before.before.before.before.before.answer.given.0.0 c.before.before.before.before.before.answer.given.1)
+    let a = c.args in
+    let e = c.plan-answer.ensures in
+    c.put_refusal.ensures
+    ∙ ap (λ (t : List ℕ). put t (sink 0 a.out.now)) (plan-refused _ _ _ _ _ e c.in-Refused.refusal c.in-Refused.is)
 
-returns-2 : tie.Need-returns-2
+returns-2 : tie.Need-returns-in-Done
 returns-2 c =
-    let a = c.before.before.before.before.before.before.before.before.before.before.before.before.before.before.before.before.before.before.before.before.before.before.before.before.before.args in
-    let e = c.before.before.before.before.before.before.before.before.before.before.before.before.before.before.before.plan.ensures in
-    c.before.before.put-sheets.ensures
-    ∙ ap (λ (t : List ℕ). put t (sink 0 a.out.now)) (plan-done _ _ _ _ _ e _ c.before.before.before.before.before.before.before.answer2.given.1)
+    let a = c.args in
+    let e = c.plan-answer.ensures in
+    c.put_sheets.ensures
+    ∙ ap (λ (t : List ℕ). put t (sink 0 a.out.now)) (plan-done _ _ _ _ _ e _ c.in-Done.is)
 
-pub put-plan-spec : {M : Type 1} → statement M
-put-plan-spec =
+pub put_plan_spec : {M : Type 1} → statement M
+put_plan_spec =
     tie.close
     (tie.spec
     (λ c κs. search rules)

@@ -8,22 +8,22 @@ use Rattle.report.proofs.Read.{read_done, read_none}
 use Rattle.report.proofs.put_read.Statement.{statement}
 use Rattle.report.proofs.put_read.Tie as tie
 
-returns : tie.Need-returns
+returns : tie.Need-returns-in-Done
 returns c =
-    let a = c.before.before.before.before.before.before.before.before.before.before.before.before.before.before.args in
-    let e = c.before.before.before.before.before.before.before.before.before.read_back.ensures in
-    c.before.before.put-sequence.ensures
-    ∙ ap (λ (t : List ℕ). put t (sink a.at a.out.now)) (read_done _ _ _ _ _ _ _ _ e _ c.before.before.before.before.before.before.answer.given.1)
+    let a = c.args in
+    let e = c.read_back-answer.ensures in
+    c.put_sequence.ensures
+    ∙ ap (λ (t : List ℕ). put t (sink a.at a.out.now)) (read_done _ _ _ _ _ _ _ _ e _ c.in-Done.is)
 
-returns-2 : tie.Need-returns-2
+returns-2 : tie.Need-returns-in-Refused
 returns-2 c =
-    let a = c.before.before.before.before.before.before.before.before.before.before.before.before.args in
-    let e = c.before.before.before.before.before.before.before.read_back.ensures in
-    c.before.before.put-none.ensures
-    ∙ ap (λ (t : List ℕ). put t (sink a.at a.out.now)) (read_none _ _ _ _ _ _ _ _ e _ c.before.before.before.before.enum_told.given.1)
+    let a = c.args in
+    let e = c.read_back-answer.ensures in
+    c.put_none.ensures
+    ∙ ap (λ (t : List ℕ). put t (sink a.at a.out.now)) (read_none _ _ _ _ _ _ _ _ e _ c.in-Refused.is)
 
-pub put-read-spec : {M : Type 1} → statement M
-put-read-spec =
+pub put_read_spec : {M : Type 1} → statement M
+put_read_spec =
     tie.close
     (tie.spec
     (λ c κs. search rules)

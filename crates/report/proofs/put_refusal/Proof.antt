@@ -9,9 +9,9 @@ use Rattle.report.proofs.put_refusal.Tie as tie
 
 returns : tie.Need-returns
 returns c =
-    let a = c.before.before.before.before.before.before.args in
-    c.before.before.Put-refused.ensures
-    ∙ ap (λ (n : ℕ). put (refused_line n a.refusal.place) (sink 0 a.out.now)) c.before.before.before.before.number.ensures
+    let a = c.args in
+    c.put_refused.ensures
+    ∙ ap (λ (n : ℕ). put (refused_line n a.refusal.place) (sink 0 a.out.now)) c.number-number.ensures
 
-pub put-refusal-spec : {M : Type 1} → statement M
-put-refusal-spec = tie.close (tie.spec (λ c κs. search rules) (λ c κs. search rules) (λ c. search rules) returns)
+pub put_refusal_spec : {M : Type 1} → statement M
+put_refusal_spec = tie.close (tie.spec (λ c κs. search rules) (λ c κs. search rules) (λ c. search rules) returns)

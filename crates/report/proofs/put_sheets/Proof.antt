@@ -7,7 +7,7 @@ use Rattle.report.proofs.put_sheets.Tie as tie
 
 returns : tie.Need-returns
 unfolding sheets_text
-returns c = onto _ _ _ _ _ c.before.before.before.before.before.before.put-head.ensures c.before.before.put-counts.ensures
+returns c = onto _ _ _ _ _ c.put_head-at.ensures c.put_counts.ensures
 
-pub put-sheets-spec : {M : Type 1} → statement M
-put-sheets-spec = tie.close (tie.spec (λ c κs. search rules) (λ c κs. search rules) (λ c. search rules) returns)
+pub put_sheets_spec : {M : Type 1} → statement M
+put_sheets_spec = tie.close (tie.spec (λ c κs. search rules) (λ c κs. search rules) (λ c. search rules) returns)

@@ -5,11 +5,11 @@ use Rattle.replies.proofs.Replies.{replies}
 use Rattle.shagorent.proofs.shagorent_add_column.Statement.{statement}
 use Rattle.shagorent.proofs.shagorent_add_column.Tie as tie
 
-pub shagorent-add-column-spec : {M : Type 1} → statement M
-shagorent-add-column-spec =
+pub shagorent_add_column_spec : {M : Type 1} → statement M
+shagorent_add_column_spec =
     tie.close
     (tie.spec
     (λ c κs. search rules)
     (λ c κs. search rules)
     (λ c. search rules)
-    (λ c. replies table_reply _ c.before.before.before.add-column.ensures _ c.table-reply.ensures))
+    (λ c. replies table_reply _ c.add_column.ensures _ c.table_reply.ensures))

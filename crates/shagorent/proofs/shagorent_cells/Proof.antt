@@ -7,15 +7,15 @@ use Rattle.shagorent.proofs.Sizes.{size-done, size-refused}
 use Rattle.shagorent.proofs.shagorent_cells.Statement.{statement}
 use Rattle.shagorent.proofs.shagorent_cells.Tie as tie
 
-returns : tie.Need-returns
+returns : tie.Need-returns-in-Good
 returns c =
-    let e = c.before.before.before.before.new.ensures in
-    c.size-reply.ensures ∙ ap reply (size-done _ _ (λ (s : Settings). s.cells) e _ c.before.before.made.given.1)
+    let e = c.new-made.ensures in
+    c.size_reply.ensures ∙ ap reply (size-done _ _ (λ (s : Settings). s.cells) e _ c.in-Good.is)
 
-returns-2 : tie.Need-returns-2
+returns-2 : tie.Need-returns-in-Bad
 returns-2 c =
-    let e = c.before.before.before.before.new.ensures in
-    c.refused-reply.ensures ∙ ap reply (size-refused _ _ (λ (s : Settings). s.cells) e c.before.before.made2.given.0.0 c.before.before.made2.given.1)
+    let e = c.new-made.ensures in
+    c.refused_reply.ensures ∙ ap reply (size-refused _ _ (λ (s : Settings). s.cells) e c.in-Bad.refusal c.in-Bad.is)
 
-pub shagorent-cells-spec : {M : Type 1} → statement M
-shagorent-cells-spec = tie.close (tie.spec (λ c κs. search rules) (λ c. search rules) (λ c κs. search rules) (λ c. search rules) (λ c κs. search rules) returns returns-2)
+pub shagorent_cells_spec : {M : Type 1} → statement M
+shagorent_cells_spec = tie.close (tie.spec (λ c κs. search rules) (λ c. search rules) (λ c κs. search rules) (λ c. search rules) (λ c κs. search rules) returns returns-2)

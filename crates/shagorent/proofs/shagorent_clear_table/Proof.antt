@@ -5,11 +5,11 @@ use Rattle.replies.proofs.Replies.{replies}
 use Rattle.shagorent.proofs.shagorent_clear_table.Statement.{statement}
 use Rattle.shagorent.proofs.shagorent_clear_table.Tie as tie
 
-pub shagorent-clear-table-spec : {M : Type 1} → statement M
-shagorent-clear-table-spec =
+pub shagorent_clear_table_spec : {M : Type 1} → statement M
+shagorent_clear_table_spec =
     tie.close
     (tie.spec
     (λ c κs. search rules)
     (λ c κs. search rules)
     (λ c. search rules)
-    (λ c. replies table_reply _ c.before.before.before.clear-table.ensures _ c.table-reply.ensures))
+    (λ c. replies table_reply _ c.clear_table.ensures _ c.table_reply.ensures))

@@ -5,5 +5,5 @@ use Rattle.replies.specs.Replies.{reply}
 use Rattle.shagorent.proofs.shagorent_job_size.Statement.{statement}
 use Rattle.shagorent.proofs.shagorent_job_size.Tie as tie
 
-pub shagorent-job-size-spec : {M : Type 1} → statement M
-shagorent-job-size-spec = tie.close (tie.spec (λ c κs. search rules) (λ c κs. search rules) (λ c. c.reply-of.ensures ∙ ap reply c.before.job-size.ensures))
+pub shagorent_job_size_spec : {M : Type 1} → statement M
+shagorent_job_size_spec = tie.close (tie.spec (λ c κs. search rules) (λ c κs. search rules) (λ c. c.reply_of.ensures ∙ ap reply c.job_size.ensures))

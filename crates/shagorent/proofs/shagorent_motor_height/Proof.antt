@@ -11,8 +11,8 @@ use Rattle.shagorent.proofs.shagorent_motor_height.Tie as tie
 
 returns : tie.Need-returns
 returns c =
-    let a = c.before.before.args in
-    c.height-reply.ensures ∙ ap height_reply c.before.motor-height.ensures.0 ∙ ap (λ (z : ℤ). height_reply (height_answer a.step z)) (to_z-of_z w32 a.boundary c.before.before.ranges.boundary)
+    let a = c.args in
+    c.height_reply.ensures ∙ ap height_reply c.motor_height.ensures.0 ∙ ap (λ (z : ℤ). height_reply (height_answer a.step z)) (to_z-of_z w32 a.boundary c.ranges.boundary)
 
-pub shagorent-motor-height-spec : {M : Type 1} → statement M
-shagorent-motor-height-spec = tie.close (tie.spec (λ c κs. search rules) (λ c κs. search rules) returns)
+pub shagorent_motor_height_spec : {M : Type 1} → statement M
+shagorent_motor_height_spec = tie.close (tie.spec (λ c κs. search rules) (λ c κs. search rules) returns)

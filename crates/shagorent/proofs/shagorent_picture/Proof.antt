@@ -11,8 +11,8 @@ use Rattle.shagorent.proofs.shagorent_picture.Tie as tie
 
 returns : tie.Need-returns
 returns c =
-    let a = c.before.before.before.args in
-    c.picture-reply.ensures ∙ ap picture_reply c.before.picture.ensures ∙ ap (λ (z : ℤ). picture_reply (picture_answer a.height a.members a.column.now z a.thickness)) (to_z-of_z w32 a.start c.before.before.before.ranges.start)
+    let a = c.args in
+    c.picture_reply.ensures ∙ ap picture_reply c.picture.ensures ∙ ap (λ (z : ℤ). picture_reply (picture_answer a.height a.members a.column.now z a.thickness)) (to_z-of_z w32 a.start c.ranges.start)
 
-pub shagorent-picture-spec : {M : Type 1} → statement M
-shagorent-picture-spec = tie.close (tie.spec (λ c κs. search rules) (λ c κs. search rules) returns)
+pub shagorent_picture_spec : {M : Type 1} → statement M
+shagorent_picture_spec = tie.close (tie.spec (λ c κs. search rules) (λ c κs. search rules) returns)

@@ -5,8 +5,8 @@ use Rattle.replies.proofs.Replies.{replies}
 use Rattle.shagorent.proofs.shagorent_plan.Statement.{statement}
 use Rattle.shagorent.proofs.shagorent_plan.Tie as tie
 
-pub shagorent-plan-spec : {M : Type 1} → statement M
-shagorent-plan-spec =
+pub shagorent_plan_spec : {M : Type 1} → statement M
+shagorent_plan_spec =
     tie.close
     (tie.spec
     (λ c κs. search rules)
@@ -14,4 +14,4 @@ shagorent-plan-spec =
     (λ c. search rules)
     (λ c. search rules)
     (λ c. search rules)
-    (λ c. replies reply _ c.before.before.before.before.before.before.before.plan.ensures _ c.reply-of.ensures))
+    (λ c. replies reply _ c.plan.ensures _ c.reply_of.ensures))

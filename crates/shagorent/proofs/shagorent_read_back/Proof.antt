@@ -5,11 +5,11 @@ use Rattle.replies.proofs.Replies.{replies}
 use Rattle.shagorent.proofs.shagorent_read_back.Statement.{statement}
 use Rattle.shagorent.proofs.shagorent_read_back.Tie as tie
 
-pub shagorent-read-back-spec : {M : Type 1} → statement M
-shagorent-read-back-spec =
+pub shagorent_read_back_spec : {M : Type 1} → statement M
+shagorent_read_back_spec =
     tie.close
     (tie.spec
     (λ c κs. search rules)
     (λ c κs. search rules)
     (λ c. search rules)
-    (λ c. replies reply _ c.before.before.read_back.ensures _ c.reply-of.ensures))
+    (λ c. replies reply _ c.read_back.ensures _ c.reply_of.ensures))

@@ -5,10 +5,10 @@ use Rattle.replies.specs.Replies.{order_reply}
 use Rattle.shagorent.proofs.shagorent_read_order.Statement.{statement}
 use Rattle.shagorent.proofs.shagorent_read_order.Tie as tie
 
-pub shagorent-read-order-spec : {M : Type 1} → statement M
-shagorent-read-order-spec =
+pub shagorent_read_order_spec : {M : Type 1} → statement M
+shagorent_read_order_spec =
     tie.close
     (tie.spec
     (λ c κs. search rules)
     (λ c κs. search rules)
-    (λ c. c.order-reply.ensures ∙ ap order_reply c.before.read-order.ensures.tells))
+    (λ c. c.order_reply.ensures ∙ ap order_reply c.read_order.ensures.tells))

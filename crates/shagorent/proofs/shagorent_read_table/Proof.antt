@@ -5,11 +5,11 @@ use Rattle.replies.proofs.Replies.{replies}
 use Rattle.shagorent.proofs.shagorent_read_table.Statement.{statement}
 use Rattle.shagorent.proofs.shagorent_read_table.Tie as tie
 
-pub shagorent-read-table-spec : {M : Type 1} → statement M
-shagorent-read-table-spec =
+pub shagorent_read_table_spec : {M : Type 1} → statement M
+shagorent_read_table_spec =
     tie.close
     (tie.spec
     (λ c κs. search rules)
     (λ c κs. search rules)
     (λ c. search rules)
-    (λ c. replies table_reply _ c.before.before.before.read_table.ensures _ c.table-reply.ensures))
+    (λ c. replies table_reply _ c.read_table.ensures _ c.table_reply.ensures))

@@ -5,10 +5,10 @@ use Rattle.replies.proofs.Replies.{replies}
 use Rattle.shagorent.proofs.shagorent_recount.Statement.{statement}
 use Rattle.shagorent.proofs.shagorent_recount.Tie as tie
 
-pub shagorent-recount-spec : {M : Type 1} → statement M
-shagorent-recount-spec =
+pub shagorent_recount_spec : {M : Type 1} → statement M
+shagorent_recount_spec =
     tie.close
     (tie.spec
     (λ c κs. search rules)
     (λ c κs. search rules)
-    (λ c. replies reply _ c.before.recount.ensures _ c.reply-of.ensures))
+    (λ c. replies reply _ c.recount.ensures _ c.reply_of.ensures))

@@ -5,11 +5,11 @@ use Rattle.replies.proofs.Replies.{replies}
 use Rattle.shagorent.proofs.shagorent_write_orders.Statement.{statement}
 use Rattle.shagorent.proofs.shagorent_write_orders.Tie as tie
 
-pub shagorent-write-orders-spec : {M : Type 1} → statement M
-shagorent-write-orders-spec =
+pub shagorent_write_orders_spec : {M : Type 1} → statement M
+shagorent_write_orders_spec =
     tie.close
     (tie.spec
     (λ c κs. search rules)
     (λ c κs. search rules)
     (λ c. search rules)
-    (λ c. replies reply _ c.before.before.before.write-orders.ensures _ c.reply-of.ensures))
+    (λ c. replies reply _ c.write_orders.ensures _ c.reply_of.ensures))

@@ -5,11 +5,11 @@ use Rattle.replies.proofs.Replies.{replies}
 use Rattle.shagorent.proofs.shagorent_write_table.Statement.{statement}
 use Rattle.shagorent.proofs.shagorent_write_table.Tie as tie
 
-pub shagorent-write-table-spec : {M : Type 1} → statement M
-shagorent-write-table-spec =
+pub shagorent_write_table_spec : {M : Type 1} → statement M
+shagorent_write_table_spec =
     tie.close
     (tie.spec
     (λ c κs. search rules)
     (λ c κs. search rules)
     (λ c. search rules)
-    (λ c. replies reply _ c.before.before.before.write-table.ensures _ c.reply-of.ensures))
+    (λ c. replies reply _ c.write_table.ensures _ c.reply_of.ensures))

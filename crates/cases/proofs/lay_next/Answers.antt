@@ -1,12 +1,12 @@
 -- Each arm is the one that the tests of the definition take. Assumes nothing.
-use borrow.Author.Rules.{rules}
 use borrow.Author.Tests.{ne_eqb}
 use mathlib.Core.Path.{◌≡◌, refl, sym, ap, ◌∙◌}
 use mathlib.Core.Logic.{◌⊎◌, inl, inr}
 use Prim.Native.Nat.{ℕ}
 use Rattle.cases.specs.Cases.{Laid, digit_of, with_half, with_byte, with_next}
-use Rattle.cases.proofs.lay_next.Statement.{statement}
-use Rattle.cases.proofs.lay_next.Tie as tie
+use borrow.Author.Rules.{rules}
+use native.Mathlib.Omega.{arith}
+use Rattle.cases.proofs.lay_next.Goals as goal
 
 dot : (c : ℕ) (l : Laid) → c ≡ 46 → with_byte 0 l ≡ with_next c l
 unfolding with_next
@@ -25,18 +25,11 @@ other c d l e n m =
     ap (λ (x : ℕ). with_half x l) e
     ∙ simp (ne_eqb c 46 n, ne_eqb c 43 (λ e. m (inl e)), ne_eqb c 45 (λ e. m (inr (inl e))), ne_eqb c 61 (λ e. m (inr (inr (inl e)))), ne_eqb c 126 (λ e. m (inr (inr (inr e)))))
 
-pub lay-next-spec : {M : Type 1} → statement M
-lay-next-spec =
-    tie.close
-    (tie.spec
-    (λ c κs. search rules)
-    (λ c κs. search rules)
-    (λ c κs. search rules)
-    (λ c κs. search rules)
-    (λ c. search rules)
-    (λ c. c.before.before.lay-byte.ensures ∙ dot _ _ c.before.before.before.before.match.keys1)
-    (λ c. search rules)
-    (λ c. c.before.before.lay-byte2.ensures ∙ itself _ _ c.before.before.before.before.match.keys2)
-    (λ c. search rules)
-    (λ c. c.before.before.lay-half.ensures
-    ∙ other _ _ _ c.before.before.before.hex-digit.ensures c.before.before.before.before.before.match.rest.0.1 c.before.before.before.before.before.match.rest.1))
+pub returns-in-46 : goal.returns-in-46
+returns-in-46 c = c.lay_byte.ensures ∙ dot _ _ c.in-46.is
+
+pub returns-in-43 : goal.returns-in-43
+returns-in-43 c = c.lay_byte-in-43.ensures ∙ itself _ _ c.in-43.is
+
+pub returns-in_default : goal.returns-in_default
+returns-in_default c = c.lay_half.ensures ∙ other _ _ _ c.hex_digit.ensures (λ e. omega arith) (search rules)
