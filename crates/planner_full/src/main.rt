@@ -2,13 +2,15 @@
 // those of `plan_job`'s types: with any other the program does not type-check.
 #![tactic(auto)]
 
-use libc::STDOUT_FILENO;
 use report::plan_job;
+
+// The file descriptor of standard output.
+const STDOUT: i32 = 1;
 
 fn main() {
     let mut input = [0u8; 4097];
     let mut text = [0u8; 131072];
     let count = io::read_full(0, &mut input);
     let length = plan_job(&input, count, &mut text);
-    io::write_all(STDOUT_FILENO, &text[..length]);
+    io::write_all(STDOUT, &text[..length]);
 }

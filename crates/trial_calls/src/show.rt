@@ -1,12 +1,14 @@
 // What is printed: words, numbers and answers.
 use crate::line::numbers_in;
 use cases::{find, part};
-use libc::STDOUT_FILENO;
 use plate::refusal::Refusal;
 use text::put_signed;
 
+// The file descriptor of standard output.
+const STDOUT: i32 = 1;
+
 pub(crate) fn text(words: &[u8]) {
-    io::write_all(STDOUT_FILENO, words);
+    io::write_all(STDOUT, words);
 }
 
 pub(crate) fn end() {
@@ -23,7 +25,7 @@ pub(crate) fn label(line: &[u8]) -> [u64; 12] {
 // A number with a space before it.
 pub(crate) fn next(x: u64) {
     text(b" ");
-    io::print_decimal(STDOUT_FILENO, x);
+    io::print_decimal(STDOUT, x);
 }
 
 pub(crate) fn next32(x: u32) {

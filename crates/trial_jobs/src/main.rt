@@ -4,8 +4,10 @@
 
 ghost use Rattle.std.specs.Prelude.{◌+◌, ◌≤◌, ◌<◌, length};
 
-use libc::STDOUT_FILENO;
 use report::plan_job;
+
+// The file descriptor of standard output.
+const STDOUT: i32 = 1;
 
 const MOST_INPUT: usize = 65536;
 
@@ -24,10 +26,10 @@ fn print_case(number: usize, file: &[u8]) {
     let mut text = [0u8; 131072];
     let count = read_in(file, &mut input);
     let length = plan_job(&input, count, &mut text);
-    io::write_all(STDOUT_FILENO, b"# ");
-    io::print_decimal(STDOUT_FILENO, number as u64);
-    io::write_all(STDOUT_FILENO, b"\n");
-    io::write_all(STDOUT_FILENO, &text[..length]);
+    io::write_all(STDOUT, b"# ");
+    io::print_decimal(STDOUT, number as u64);
+    io::write_all(STDOUT, b"\n");
+    io::write_all(STDOUT, &text[..length]);
 }
 
 // Two bytes, the lower first.

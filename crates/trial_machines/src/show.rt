@@ -1,19 +1,21 @@
 // What is printed: words, numbers, refusals, and a table with what goes with it.
 use cases::part;
-use libc::STDOUT_FILENO;
 use plate::head::Head;
 use plate::refusal::Refusal;
 use plate::settings::{Made, Settings};
 use text::put_signed;
 
+// The file descriptor of standard output.
+const STDOUT: i32 = 1;
+
 pub(crate) fn text(words: &[u8]) {
-    io::write_all(STDOUT_FILENO, words);
+    io::write_all(STDOUT, words);
 }
 
 // A number with a space before it.
 pub(crate) fn next(x: u64) {
     text(b" ");
-    io::print_decimal(STDOUT_FILENO, x);
+    io::print_decimal(STDOUT, x);
 }
 
 // A height with its sign, and a space before it.

@@ -1,16 +1,18 @@
 // What is printed: words, numbers, refusals, and whether lent memory was kept.
-use libc::STDOUT_FILENO;
 use plate::head::Head;
 use plate::refusal::Reason;
 
+// The file descriptor of standard output.
+const STDOUT: i32 = 1;
+
 pub(crate) fn text(words: &[u8]) {
-    io::write_all(STDOUT_FILENO, words);
+    io::write_all(STDOUT, words);
 }
 
 // A number with a space before it.
 pub(crate) fn next(x: u64) {
     text(b" ");
-    io::print_decimal(STDOUT_FILENO, x);
+    io::print_decimal(STDOUT, x);
 }
 
 pub(crate) fn next32(x: u32) {

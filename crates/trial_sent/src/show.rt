@@ -1,21 +1,23 @@
 // What is printed: words, numbers and answers.
-use libc::STDOUT_FILENO;
 use plate::head::Tabled;
 use plate::refusal::{Answer, Refusal};
 
+// The file descriptor of standard output.
+const STDOUT: i32 = 1;
+
 pub(crate) fn text(words: &[u8]) {
-    io::write_all(STDOUT_FILENO, words);
+    io::write_all(STDOUT, words);
 }
 
 // A number with a space before it.
 pub(crate) fn next(x: u64) {
     text(b" ");
-    io::print_decimal(STDOUT_FILENO, x);
+    io::print_decimal(STDOUT, x);
 }
 
 // A byte in two hexadecimal digits.
 pub(crate) fn byte(x: u8) {
-    io::print_hex(STDOUT_FILENO, x as u64, 2);
+    io::print_hex(STDOUT, x as u64, 2);
 }
 
 fn refused(refusal: Refusal) {

@@ -6,14 +6,14 @@ use lib.ListN.{length}
 use Rattle.trial_jobs.proofs.print_cases.Statement.{statement}
 use Rattle.trial_jobs.proofs.print_cases.Tie as tie
 
-abbrev invariant-loop : tie.invariant-loop
+abbrev invariant-loop : tie.invariant-loop-at
 invariant-loop input at₀ number₀ at number = (at ≤ length input) × (number ≤ at)
 
-abbrev decreases-loop : tie.decreases-loop
+abbrev decreases-loop : tie.decreases-loop-at
 decreases-loop input at₀ number₀ at number = length input - at
 
-pub print-cases-spec : {M : Type 1} → statement M
-print-cases-spec =
+pub print_cases_spec : {M : Type 1} → statement M
+print_cases_spec =
     tie.close
     (tie.spec
     invariant-loop

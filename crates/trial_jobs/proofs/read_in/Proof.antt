@@ -6,14 +6,14 @@ use lib.ListN.{length}
 use Rattle.trial_jobs.proofs.read_in.Statement.{statement}
 use Rattle.trial_jobs.proofs.read_in.Tie as tie
 
-abbrev invariant-loop : tie.invariant-loop
+abbrev invariant-loop : tie.invariant-loop-i
 invariant-loop file input₀ i₀ input i = (i ≤ length file) × (length input ≡ length input₀)
 
-abbrev decreases-loop : tie.decreases-loop
+abbrev decreases-loop : tie.decreases-loop-i
 decreases-loop file input₀ i₀ input i = length file - i
 
-pub read-in-spec : {M : Type 1} → statement M
-read-in-spec =
+pub read_in_spec : {M : Type 1} → statement M
+read_in_spec =
     tie.close
     (tie.spec
     invariant-loop

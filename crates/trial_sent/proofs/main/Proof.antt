@@ -11,7 +11,7 @@ main_spec =
     (tie.spec
     (λ c. sym (length-replicate {A = ℕ} 262_144 0))
     (λ c κs. tt)
-    (λ c. c.before.read-full.ensures.0)
-    (λ c. c.before.before.read-full.ensures.1)
+    (λ c. c.read_full-size.ensures.0)
+    (λ c. c.read_full-size.ensures.1)
     (λ c κs. tt)
     (λ c. tt))

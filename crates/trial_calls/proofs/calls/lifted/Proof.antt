@@ -4,8 +4,8 @@ use Rattle.trial_calls.proofs.Heights.{no_nan}
 use Rattle.trial_calls.proofs.calls.lifted.Statement.{statement}
 use Rattle.trial_calls.proofs.calls.lifted.Tie as tie
 
-pub lifted-spec : {M : Type 1} → statement M
-lifted-spec =
+pub lifted_spec : {M : Type 1} → statement M
+lifted_spec =
     tie.close
     (tie.spec
     (λ c. search rules)
@@ -16,7 +16,7 @@ lifted-spec =
     (λ c. search rules)
     (λ c κs. search rules)
     (λ c. search rules)
-    (λ c. no_nan _ _ _ _ c.before.before.before.motor-height.ensures.1 c.before.height.given.1)
+    (λ c. no_nan _ _ _ _ c.motor_height.ensures.1 c.in-Done.is)
     (λ c κs. search rules)
     (λ c. search rules)
     (λ c. search rules))

@@ -5,14 +5,14 @@ use Prim.Native.Nat.{◌-◌}
 use Rattle.trial_calls.proofs.line.begins.Statement.{statement}
 use Rattle.trial_calls.proofs.line.begins.Tie as tie
 
-abbrev invariant-loop : tie.invariant-loop
+abbrev invariant-loop : tie.invariant-loop-i
 invariant-loop line word i₀ i = Unit {0}
 
-abbrev decreases-loop : tie.decreases-loop
+abbrev decreases-loop : tie.decreases-loop-i
 decreases-loop line word i₀ i = length word - i
 
-pub begins-spec : {M : Type 1} → statement M
-begins-spec =
+pub begins_spec : {M : Type 1} → statement M
+begins_spec =
     tie.close
     (tie.spec
     invariant-loop

@@ -6,14 +6,14 @@ use mathlib.Core.Path.{◌≡◌}
 use Rattle.trial_calls.proofs.line.numbers_in.Statement.{statement}
 use Rattle.trial_calls.proofs.line.numbers_in.Tie as tie
 
-abbrev invariant-loop : tie.invariant-loop
+abbrev invariant-loop : tie.invariant-loop-k
 invariant-loop line numbers₀ at₀ k₀ numbers at k = length numbers ≡ 12
 
-abbrev decreases-loop : tie.decreases-loop
+abbrev decreases-loop : tie.decreases-loop-k
 decreases-loop line numbers₀ at₀ k₀ numbers at k = 12 - k
 
-pub numbers-in-spec : {M : Type 1} → statement M
-numbers-in-spec =
+pub numbers_in_spec : {M : Type 1} → statement M
+numbers_in_spec =
     tie.close
     (tie.spec
     invariant-loop

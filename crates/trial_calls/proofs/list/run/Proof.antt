@@ -6,10 +6,10 @@ use Prim.Native.Nat.{◌-◌}
 use Rattle.trial_calls.proofs.list.run.Statement.{statement}
 use Rattle.trial_calls.proofs.list.run.Tie as tie
 
-abbrev invariant-loop : tie.invariant-loop
+abbrev invariant-loop : tie.invariant-loop-start
 invariant-loop list table₀ errors₀ thicknesses₀ start₀ table errors thicknesses start = (length table ≡ length table₀) × (length errors ≡ length errors₀) × (length thicknesses ≡ length thicknesses₀)
 
-abbrev decreases-loop : tie.decreases-loop
+abbrev decreases-loop : tie.decreases-loop-start
 decreases-loop list table₀ errors₀ thicknesses₀ start₀ table errors thicknesses start = length list - start
 
 pub run_spec : {M : Type 1} → statement M

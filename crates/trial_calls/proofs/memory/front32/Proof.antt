@@ -5,8 +5,8 @@ use borrow.Author.Rules.{rules}
 use Rattle.trial_calls.proofs.memory.front32.Statement.{statement}
 use Rattle.trial_calls.proofs.memory.front32.Tie as tie
 
-pub front32-spec : {M : Type 1} → statement M
-front32-spec =
+pub front32_spec : {M : Type 1} → statement M
+front32_spec =
     tie.close
     (tie.spec
     (λ c. sym (length-take-le _ _ (search rules)))

@@ -5,8 +5,8 @@ use borrow.Author.Rules.{rules}
 use Rattle.trial_calls.proofs.memory.front64.Statement.{statement}
 use Rattle.trial_calls.proofs.memory.front64.Tie as tie
 
-pub front64-spec : {M : Type 1} → statement M
-front64-spec =
+pub front64_spec : {M : Type 1} → statement M
+front64_spec =
     tie.close
     (tie.spec
     (λ c. sym (length-take-le _ _ (search rules)))

@@ -5,8 +5,8 @@ use borrow.Author.Rules.{rules}
 use Rattle.trial_calls.proofs.memory.front8.Statement.{statement}
 use Rattle.trial_calls.proofs.memory.front8.Tie as tie
 
-pub front8-spec : {M : Type 1} → statement M
-front8-spec =
+pub front8_spec : {M : Type 1} → statement M
+front8_spec =
     tie.close
     (tie.spec
     (λ c. sym (length-take-le _ _ (search rules)))

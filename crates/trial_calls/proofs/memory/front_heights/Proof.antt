@@ -5,8 +5,8 @@ use borrow.Author.Rules.{rules}
 use Rattle.trial_calls.proofs.memory.front_heights.Statement.{statement}
 use Rattle.trial_calls.proofs.memory.front_heights.Tie as tie
 
-pub front-heights-spec : {M : Type 1} → statement M
-front-heights-spec =
+pub front_heights_spec : {M : Type 1} → statement M
+front_heights_spec =
     tie.close
     (tie.spec
     (λ c. sym (length-take-le _ _ (search rules)))

@@ -6,14 +6,14 @@ use mathlib.Core.Path.{◌≡◌}
 use Rattle.trial_calls.proofs.memory.lay16.Statement.{statement}
 use Rattle.trial_calls.proofs.memory.lay16.Tie as tie
 
-abbrev invariant-loop : tie.invariant-loop
+abbrev invariant-loop : tie.invariant-loop-i
 invariant-loop buffer₀ line character laying to i₀ at₀ buffer i at = (to ≤ length buffer₀) × (length buffer ≡ length buffer₀)
 
-abbrev decreases-loop : tie.decreases-loop
+abbrev decreases-loop : tie.decreases-loop-i
 decreases-loop buffer₀ line character laying to i₀ at₀ buffer i at = to - i
 
-pub lay16-spec : {M : Type 1} → statement M
-lay16-spec =
+pub lay16_spec : {M : Type 1} → statement M
+lay16_spec =
     tie.close
     (tie.spec
     invariant-loop

@@ -6,14 +6,14 @@ use mathlib.Core.Path.{◌≡◌}
 use Rattle.trial_calls.proofs.memory.lay8.Statement.{statement}
 use Rattle.trial_calls.proofs.memory.lay8.Tie as tie
 
-abbrev invariant-loop : tie.invariant-loop
+abbrev invariant-loop : tie.invariant-loop-i
 invariant-loop buffer₀ line character laying to i₀ at₀ buffer i at = (to ≤ length buffer₀) × (length buffer ≡ length buffer₀)
 
-abbrev decreases-loop : tie.decreases-loop
+abbrev decreases-loop : tie.decreases-loop-i
 decreases-loop buffer₀ line character laying to i₀ at₀ buffer i at = to - i
 
-pub lay8-spec : {M : Type 1} → statement M
-lay8-spec =
+pub lay8_spec : {M : Type 1} → statement M
+lay8_spec =
     tie.close
     (tie.spec
     invariant-loop

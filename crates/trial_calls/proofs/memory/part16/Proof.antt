@@ -5,8 +5,8 @@ use borrow.Author.Rules.{rules}
 use Rattle.trial_calls.proofs.memory.part16.Statement.{statement}
 use Rattle.trial_calls.proofs.memory.part16.Tie as tie
 
-pub part16-spec : {M : Type 1} → statement M
-part16-spec =
+pub part16_spec : {M : Type 1} → statement M
+part16_spec =
     tie.close
     (tie.spec
     (λ c. sym (length-take-le _ _ (search rules)))

@@ -5,8 +5,8 @@ use borrow.Author.Rules.{rules}
 use Rattle.trial_calls.proofs.memory.part32.Statement.{statement}
 use Rattle.trial_calls.proofs.memory.part32.Tie as tie
 
-pub part32-spec : {M : Type 1} → statement M
-part32-spec =
+pub part32_spec : {M : Type 1} → statement M
+part32_spec =
     tie.close
     (tie.spec
     (λ c. sym (length-take-le _ _ (search rules)))

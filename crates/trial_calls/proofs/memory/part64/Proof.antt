@@ -5,8 +5,8 @@ use borrow.Author.Rules.{rules}
 use Rattle.trial_calls.proofs.memory.part64.Statement.{statement}
 use Rattle.trial_calls.proofs.memory.part64.Tie as tie
 
-pub part64-spec : {M : Type 1} → statement M
-part64-spec =
+pub part64_spec : {M : Type 1} → statement M
+part64_spec =
     tie.close
     (tie.spec
     (λ c. sym (length-take-le _ _ (search rules)))

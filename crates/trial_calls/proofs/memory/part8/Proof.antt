@@ -5,8 +5,8 @@ use borrow.Author.Rules.{rules}
 use Rattle.trial_calls.proofs.memory.part8.Statement.{statement}
 use Rattle.trial_calls.proofs.memory.part8.Tie as tie
 
-pub part8-spec : {M : Type 1} → statement M
-part8-spec =
+pub part8_spec : {M : Type 1} → statement M
+part8_spec =
     tie.close
     (tie.spec
     (λ c. sym (length-take-le _ _ (search rules)))

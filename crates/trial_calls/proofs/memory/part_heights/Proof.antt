@@ -5,8 +5,8 @@ use borrow.Author.Rules.{rules}
 use Rattle.trial_calls.proofs.memory.part_heights.Statement.{statement}
 use Rattle.trial_calls.proofs.memory.part_heights.Tie as tie
 
-pub part-heights-spec : {M : Type 1} → statement M
-part-heights-spec =
+pub part_heights_spec : {M : Type 1} → statement M
+part_heights_spec =
     tie.close
     (tie.spec
     (λ c. sym (length-take-le _ _ (search rules)))

@@ -5,14 +5,14 @@ use Prim.Native.Nat.{◌-◌, ◌≤◌}
 use Rattle.trial_calls.proofs.memory.show8.Statement.{statement}
 use Rattle.trial_calls.proofs.memory.show8.Tie as tie
 
-abbrev invariant-loop : tie.invariant-loop
+abbrev invariant-loop : tie.invariant-loop-i
 invariant-loop buffer asked size few digest₀ i₀ digest i = size ≤ length buffer
 
-abbrev decreases-loop : tie.decreases-loop
+abbrev decreases-loop : tie.decreases-loop-i
 decreases-loop buffer asked size few digest₀ i₀ digest i = size - i
 
-pub show8-spec : {M : Type 1} → statement M
-show8-spec =
+pub show8_spec : {M : Type 1} → statement M
+show8_spec =
     tie.close
     (tie.spec
     invariant-loop

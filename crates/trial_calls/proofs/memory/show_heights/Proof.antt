@@ -5,14 +5,14 @@ use Prim.Native.Nat.{◌-◌, ◌≤◌}
 use Rattle.trial_calls.proofs.memory.show_heights.Statement.{statement}
 use Rattle.trial_calls.proofs.memory.show_heights.Tie as tie
 
-abbrev invariant-loop : tie.invariant-loop
+abbrev invariant-loop : tie.invariant-loop-i
 invariant-loop buffer asked size i₀ i = size ≤ length buffer
 
-abbrev decreases-loop : tie.decreases-loop
+abbrev decreases-loop : tie.decreases-loop-i
 decreases-loop buffer asked size i₀ i = size - i
 
-pub show-heights-spec : {M : Type 1} → statement M
-show-heights-spec =
+pub show_heights_spec : {M : Type 1} → statement M
+show_heights_spec =
     tie.close
     (tie.spec
     invariant-loop

@@ -5,14 +5,14 @@ use Prim.Native.Nat.{◌-◌}
 use Rattle.trial_machines.proofs.plans.show_boundaries.Statement.{statement}
 use Rattle.trial_machines.proofs.plans.show_boundaries.Tie as tie
 
-abbrev invariant-loop : tie.invariant-loop
+abbrev invariant-loop : tie.invariant-loop-i
 invariant-loop sequence count i₀ i = Unit {0}
 
-abbrev decreases-loop : tie.decreases-loop
+abbrev decreases-loop : tie.decreases-loop-i
 decreases-loop sequence count i₀ i = length sequence - i
 
-pub show-boundaries-spec : {M : Type 1} → statement M
-show-boundaries-spec =
+pub show_boundaries_spec : {M : Type 1} → statement M
+show_boundaries_spec =
     tie.close
     (tie.spec
     invariant-loop

@@ -4,14 +4,14 @@ use Prim.Native.Nat.{◌-◌}
 use Rattle.trial_machines.proofs.plans.show_counts.Statement.{statement}
 use Rattle.trial_machines.proofs.plans.show_counts.Tie as tie
 
-abbrev invariant-loop : tie.invariant-loop
+abbrev invariant-loop : tie.invariant-loop-count
 invariant-loop head most errors thicknesses count₀ count = Unit {0}
 
-abbrev decreases-loop : tie.decreases-loop
+abbrev decreases-loop : tie.decreases-loop-count
 decreases-loop head most errors thicknesses count₀ count = most - count
 
-pub show-counts-spec : {M : Type 1} → statement M
-show-counts-spec =
+pub show_counts_spec : {M : Type 1} → statement M
+show_counts_spec =
     tie.close
     (tie.spec
     invariant-loop

@@ -5,14 +5,14 @@ use Prim.Native.Nat.{◌-◌}
 use Rattle.trial_machines.proofs.show.cells.Statement.{statement}
 use Rattle.trial_machines.proofs.show.cells.Tie as tie
 
-abbrev invariant-loop : tie.invariant-loop
+abbrev invariant-loop : tie.invariant-loop-i
 invariant-loop table size i₀ i = Unit {0}
 
-abbrev decreases-loop : tie.decreases-loop
+abbrev decreases-loop : tie.decreases-loop-i
 decreases-loop table size i₀ i = length table - i
 
-pub cells-spec : {M : Type 1} → statement M
-cells-spec =
+pub cells_spec : {M : Type 1} → statement M
+cells_spec =
     tie.close
     (tie.spec
     invariant-loop

@@ -9,8 +9,8 @@ use Rattle.plate.specs.declared.head.Tabled.{Tabled}
 use Rattle.trial_machines.proofs.steps.answered.Statement.{statement}
 use Rattle.trial_machines.proofs.steps.answered.Tie as tie
 
-pub answered-spec : {M : Type 1} → statement M
-answered-spec =
+pub answered_spec : {M : Type 1} → statement M
+answered_spec =
     tie.close
     (tie.spec
     (λ c. search rules)
@@ -19,4 +19,4 @@ answered-spec =
     (λ c. search rules)
     (λ c κs. search rules)
     (λ c e written held. absurd (let z : ◌≡◌ {A = ℕ} 0 1 = cc in omega arith))
-    (λ c e written held. ap (λ (a : Tabled). after (told_table a) written held) c.before.before.answer2.given.1))
+    (λ c e written held. ap (λ (a : Tabled). after (told_table a) written held) c.in-Refused.is))

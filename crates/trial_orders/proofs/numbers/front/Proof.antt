@@ -3,8 +3,8 @@ use Rattle.std.proofs.Common.{sym, length-take-le, rules}
 use Rattle.trial_orders.proofs.numbers.front.Statement.{statement}
 use Rattle.trial_orders.proofs.numbers.front.Tie as tie
 
-pub front-spec : {M : Type 1} → statement M
-front-spec =
+pub front_spec : {M : Type 1} → statement M
+front_spec =
     tie.close
     (tie.spec
     (λ c. sym (length-take-le _ _ (search rules)))

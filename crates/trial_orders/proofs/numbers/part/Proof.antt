@@ -3,8 +3,8 @@ use Rattle.std.proofs.Common.{sym, length-take-le, rules}
 use Rattle.trial_orders.proofs.numbers.part.Statement.{statement}
 use Rattle.trial_orders.proofs.numbers.part.Tie as tie
 
-pub part-spec : {M : Type 1} → statement M
-part-spec =
+pub part_spec : {M : Type 1} → statement M
+part_spec =
     tie.close
     (tie.spec
     (λ c. sym (length-take-le _ _ (search rules)))

@@ -5,8 +5,8 @@ use lib.Seq.{length-take-le}
 use Rattle.trial_records.proofs.files.front.Statement.{statement}
 use Rattle.trial_records.proofs.files.front.Tie as tie
 
-pub front-spec : {M : Type 1} → statement M
-front-spec =
+pub front_spec : {M : Type 1} → statement M
+front_spec =
     tie.close
     (tie.spec
     (λ c. sym (length-take-le _ _ (search rules)))

@@ -8,23 +8,23 @@ use lib.ListN.{get_or}
 use Rattle.trial_records.proofs.files.is_pattern.Statement.{statement}
 use Rattle.trial_records.proofs.files.is_pattern.Tie as tie
 
-abbrev invariant-loop : tie.invariant-loop
+abbrev invariant-loop : tie.invariant-loop-i
 invariant-loop table i₀ i = (i ≤ 30) × ((k : ℕ) → k < i → get_or table k 0 ≡ 900 + k)
 
-abbrev decreases-loop : tie.decreases-loop
+abbrev decreases-loop : tie.decreases-loop-i
 decreases-loop table i₀ i = 30 - i
 
-loop-again : tie.Need-loop-preserved invariant-loop decreases-loop
-loop-again c = (search rules, below_more _ _ c.before.before.before.loop.invariant.1 c.if1.false)
+loop-again : tie.Need-loop-i-preserved invariant-loop decreases-loop
+loop-again c = (search rules, below_more _ _ c.loop-i.invariant.1 c.if-table-i.false)
 
-returns : tie.Need-returns invariant-loop decreases-loop
+returns : tie.Need-returns-then-table-i invariant-loop decreases-loop
 returns c e i l = let z : ◌≡◌ {A = ℕ} 0 1 = cc e in absurd (omega arith)
 
-returns-2 : tie.Need-returns-2 invariant-loop decreases-loop
-returns-2 c e i l = c.before.loop.invariant.1 i (omega arith)
+returns-2 : tie.Need-returns invariant-loop decreases-loop
+returns-2 c e i l = c.loop-i.invariant.1 i (omega arith)
 
-pub is-pattern-spec : {M : Type 1} → statement M
-is-pattern-spec =
+pub is_pattern_spec : {M : Type 1} → statement M
+is_pattern_spec =
     tie.close
     (tie.spec
     invariant-loop

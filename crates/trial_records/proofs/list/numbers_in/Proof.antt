@@ -5,14 +5,14 @@ use Prim.Native.Nat.{◌-◌}
 use Rattle.trial_records.proofs.list.numbers_in.Statement.{statement}
 use Rattle.trial_records.proofs.list.numbers_in.Tie as tie
 
-abbrev invariant-loop : tie.invariant-loop
+abbrev invariant-loop : tie.invariant-loop-i
 invariant-loop words numbers₀ i₀ numbers i = Unit {0}
 
-abbrev decreases-loop : tie.decreases-loop
+abbrev decreases-loop : tie.decreases-loop-i
 decreases-loop words numbers₀ i₀ numbers i = length words - i
 
-pub numbers-in-spec : {M : Type 1} → statement M
-numbers-in-spec =
+pub numbers_in_spec : {M : Type 1} → statement M
+numbers_in_spec =
     tie.close
     (tie.spec
     invariant-loop

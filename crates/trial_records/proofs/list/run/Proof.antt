@@ -5,10 +5,10 @@ use Prim.Native.Nat.{◌-◌}
 use Rattle.trial_records.proofs.list.run.Statement.{statement}
 use Rattle.trial_records.proofs.list.run.Tie as tie
 
-abbrev invariant-loop : tie.invariant-loop
+abbrev invariant-loop : tie.invariant-loop-start
 invariant-loop list start₀ start = Unit {0}
 
-abbrev decreases-loop : tie.decreases-loop
+abbrev decreases-loop : tie.decreases-loop-start
 decreases-loop list start₀ start = length list - start
 
 pub run_spec : {M : Type 1} → statement M

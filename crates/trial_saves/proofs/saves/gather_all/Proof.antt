@@ -3,14 +3,14 @@ use Rattle.std.proofs.Common.{◌≡◌, length, rules}
 use Rattle.trial_saves.proofs.saves.gather_all.Statement.{statement}
 use Rattle.trial_saves.proofs.saves.gather_all.Tie as tie
 
-abbrev invariant-loop : tie.invariant-loop
+abbrev invariant-loop : tie.invariant-loop-left
 invariant-loop file boundaries₀ counts₀ gathered₀ cursor₀ state₀ left₀ boundaries counts gathered cursor state left = (length boundaries ≡ length boundaries₀) × (length counts ≡ length counts₀)
 
-abbrev decreases-loop : tie.decreases-loop
+abbrev decreases-loop : tie.decreases-loop-left
 decreases-loop file boundaries₀ counts₀ gathered₀ cursor₀ state₀ left₀ boundaries counts gathered cursor state left = left
 
-pub gather-all-spec : {M : Type 1} → statement M
-gather-all-spec =
+pub gather_all_spec : {M : Type 1} → statement M
+gather_all_spec =
     tie.close
     (tie.spec
     invariant-loop

@@ -3,14 +3,14 @@ use Rattle.std.proofs.Common.{◌-◌, length, rules}
 use Rattle.trial_sent.proofs.cells.show_part.Statement.{statement}
 use Rattle.trial_sent.proofs.cells.show_part.Tie as tie
 
-abbrev invariant-loop : tie.invariant-loop
+abbrev invariant-loop : tie.invariant-loop-i
 invariant-loop table from to i₀ i = Unit {0}
 
-abbrev decreases-loop : tie.decreases-loop
+abbrev decreases-loop : tie.decreases-loop-i
 decreases-loop table from to i₀ i = length table - i
 
-pub show-part-spec : {M : Type 1} → statement M
-show-part-spec =
+pub show_part_spec : {M : Type 1} → statement M
+show_part_spec =
     tie.close
     (tie.spec
     invariant-loop

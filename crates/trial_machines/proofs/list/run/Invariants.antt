@@ -1,0 +1,10 @@
+-- What is given, the tables and the output stay as long as they were, and the loop ends with the list. Assumes nothing.
+use Rattle.std.proofs.Common.{◌≡◌, ◌-◌, length}
+use Rattle.trial_machines.proofs.list.run.Given as goal
+
+abbrev pub invariant-loop-start : goal.invariant-loop-start
+invariant-loop-start l =
+    (length l.given ≡ length l.initial.given) × (length l.table ≡ length l.initial.table) × (length l.other ≡ length l.initial.other) × (length l.output ≡ length l.initial.output)
+
+abbrev pub decreases-loop-start : goal.decreases-loop-start
+decreases-loop-start l = length l.list - l.start
