@@ -1,4 +1,4 @@
-// Links the proved library that `rt staticlib shagorent` writes, where the feature `library` asks for it and no stand-in replaces it.
+// Links the proved library that `rt lib` writes in crates/shagorent, where the feature `library` asks for it and no stand-in replaces it.
 
 use std::env;
 use std::path::Path;
@@ -13,7 +13,7 @@ fn main() {
         return;
     }
     let here = env::var("CARGO_MANIFEST_DIR").expect("cargo names the folder");
-    let folder = Path::new(&here).join("../target/staticlib");
+    let folder = Path::new(&here).join("../crates/shagorent/out");
     println!("cargo:rerun-if-changed={}", folder.join("libshagorent.a").display());
     println!("cargo:rustc-link-search=native={}", folder.display());
     println!("cargo:rustc-link-lib=static=shagorent");

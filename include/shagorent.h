@@ -3,7 +3,7 @@
  * Given the columns of a plate, it finds for every number of layers the sequence of layers with the least error, the fewest voxels wrongly
  * filled or left out. What each call answers and what it writes is proved, for any input.
  *
- * Link with libshagorent.a, which `rt staticlib shagorent` makes in target/staticlib.
+ * Link with libshagorent.a, which `rt lib` in crates/shagorent makes in crates/shagorent/out.
  *
  * MEMORY. All memory is lent: the library allocates nothing, keeps nothing after a call, has no state of its own, blocks on nothing, and may
  * be called from several threads at once with different buffers. A buffer is a pointer and a length in elements, and may be longer than asked

@@ -47,17 +47,10 @@ module _ (c : tie.After-end_of-end) where
         );
   }
 
-returns : tie.Need-returns-then-end
-returns c =
-    let e = c.before.before.before in
-    rw c.refusal_at.ensures
-    (no_end _ _ _ _ _ _ (a e).requires.1
-    (ends.without_end (a e).args.s (a e).requires.0 _ (errors-whole (a e)) _ (few (a e)) _ e.end_of-end.ensures (λ i. omega (arith, e.shared_slice_known-1.given i)) c.if-end.true))
-
 returns-2 : tie.Need-returns-in-Fault
 returns-2 c =
     let e = c.before.before.before.before.before.before.before.before.before in
-    let n = c.if-end.false in
+    let n : c.end_of-end.result.error ≡ missing → ⊥ = λ e. omega arith in
     rw c.refusal_at-in-Fault.ensures
     (bad-walk _ _ _ _ _ _ (a e).requires.1 (ends.with-end (a e).args.s (a e).requires.0 _ (errors-whole (a e)) _ (few (a e)) _ e.end_of-end.ensures n) _ _
     (ends.top-row (a e).args.s (a e).requires.0 _ (errors-whole (a e)) _ (few (a e)) _ e.end_of-end.ensures n) c.walk_down-walk.ensures.ends _ (ap fault_of c.in-Fault.is))
@@ -65,7 +58,7 @@ returns-2 c =
 returns-3 : tie.Need-returns
 returns-3 c =
     let e = c.before.before.before.before.before.before.before.before.before.before.before.before in
-    let n = c.if-end.false in
+    let n : c.end_of-end.result.error ≡ missing → ⊥ = λ e. omega arith in
     let w = c.walk_down-walk.ensures in
     let f = ap fault_of c.in_default.is in
     good-walk _ _ _ _ _ _ (a e).requires.1 (ends.with-end (a e).args.s (a e).requires.0 _ (errors-whole (a e)) _ (few (a e)) _ e.end_of-end.ensures n) _ _
@@ -79,7 +72,11 @@ read_entries_spec =
     (tie.spec
     (λ c κs. let a = c.before.before in (a.requires.0, few a))
     (λ c κs. search rules)
-    returns
+    (λ c.
+    let e = c.before.before.before in
+    rw c.refusal_at.ensures
+    (no_end _ _ _ _ _ _ (a e).requires.1
+    (ends.without_end (a e).args.s (a e).requires.0 _ (errors-whole (a e)) _ (few (a e)) _ e.end_of-end.ensures (λ i. omega (arith, e.shared_slice_known-1.given i)) (omega arith))))
     (λ c. let a = c in omega (arith, a.requires.0.high, a.requires.0.thick))
     (λ c. let a = c in omega (arith, a.requires.0.low))
     (λ c. let e = c.before.before.before.before in omega (arith, (in-sheet e c.if-end.false).row, (a e).requires.0.rows_are, (a e).requires.0.high, (a e).requires.0.thick))

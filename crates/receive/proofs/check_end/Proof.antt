@@ -35,11 +35,6 @@ module _ (a : tie.Start) where
   refused : (number : ℕ) → some (at number a.args.at) ≡ some (at number place)
   refused number = ap (λ (n : ℕ). some (at number n)) a.requires.1.1
 
-returns : tie.Need-returns-then-row-s
-returns c =
-    let a = c.before.before.before.before in
-    ap (λ (r : Refusal). some (numbered r)) c.refusal_at.ensures ∙ refused a _ ∙ end-missing (file a) (head_in (file a)) _ a.args.row (omega arith)
-
 returns-2 : tie.Need-returns-then-word-s
 returns-2 c =
     let w = c in
@@ -61,7 +56,9 @@ check_end_spec =
     tie.close
     (tie.spec
     (λ c κs. search rules)
-    returns
+    (λ c.
+    let a = c.before.before.before.before in
+    ap (λ (r : Refusal). some (numbered r)) c.refusal_at.ensures ∙ refused a _ ∙ end-missing (file a) (head_in (file a)) _ a.args.row (omega arith))
     (λ c. omega (arith, small c.before.before.before))
     (λ c κs. search rules)
     (λ c. search rules)

@@ -23,24 +23,20 @@ module _ (c : tie.Else-not-is_allowed) where
   member : allowed s.args.s.members (s.args.above - s.args.below) ≡ true
   member = sym c.is_allowed.ensures ∙ c.if-not-is_allowed.false
 
--- past the test on the end
-module _ (c : tie.Else-s-above) where
-  abbrev thin : tie.Else-not-is_allowed
-  thin = c.before.before
-
-  ends : (s thin).args.above ≤ (s thin).args.s.height + tmax (s thin).args.s.members + 31
-  ends = omega (arith, c.if-s-above.false, (s thin).requires.0.greatest)
+  -- the end, where it is no higher than the settings let it be
+  ends : s.args.above ≤ s.args.s.height + s.args.s.tmax + 31 → s.args.above ≤ s.args.s.height + tmax s.args.s.members + 31
+  ends h = omega (arith, s.requires.0.greatest)
 
 -- past the cell
 module _ (c : tie.After-cell_of-error) where
   abbrev lower : tie.After-row_of-row
   lower = c.before.before
 
-  abbrev e : tie.Else-s-above
-  e = lower.before.before
-
   abbrev d : tie.Else-not-is_allowed
-  d = thin e
+  d = lower.before.before.before.before
+
+  top : (s d).args.above ≤ (s d).args.s.height + tmax (s d).args.s.members + 31
+  top = ends d (omega arith)
 
   reads : c.cell_of-error.result ≡ cell_from (s d).args.s.members (s d).args.table.now (s d).args.below ((s d).args.above - (s d).args.below)
   reads = c.cell_of-error.ensures ∙ cell-read _ _ _ _ _ _ (s d).requires.0.greatest lower.row_of-row.ensures
@@ -49,10 +45,10 @@ returns-5 : tie.Need-returns
 returns-5 c =
     let k = c.before in
     record {
-      admissible = in-bound _ _ _ _ _ _ (member (d k)) (ends (e k)) (omega (arith, reads k));
+      admissible = in-bound _ _ _ _ _ _ (member (d k)) (top k) (omega (arith, reads k));
       is = reads k;
       rises = omega arith;
-      ends = omega (arith, ends (e k));
+      ends = omega (arith, top k);
       small = omega arith;
     }
 
@@ -66,14 +62,14 @@ look_spec =
     (λ c. out-thickness _ _ _ _ _ _ (sym c.is_allowed.ensures ∙ c.if-not-is_allowed.true))
     (λ c. let s = c in omega (arith, s.requires.0.high, s.requires.0.thick))
     (λ c. let s = c in omega (arith, s.requires.0.high, s.requires.0.thick))
-    (λ c. let b = c.before.before in out-end _ _ _ _ _ _ (member b) (omega (arith, c.if-s-above.true, (s b).requires.0.greatest)))
-    (λ c. let b = thin c.before in omega (arith, (s b).requires.0.thick))
-    (λ c. let b = thin c.before in omega (arith, (s b).requires.1, (s b).requires.0.high, (s b).requires.0.thick))
+    (λ c. let b = c.before.before in out-end _ _ _ _ _ _ (member b) (omega (arith, (s b).requires.0.greatest)))
+    (λ c. let b = c.before.before.before in omega (arith, (s b).requires.0.thick))
+    (λ c. let b = c.before.before.before in omega (arith, (s b).requires.1, (s b).requires.0.high, (s b).requires.0.thick))
     (λ c κs. search rules)
-    (λ c. let b = thin c.before.before.before in omega (arith, (s b).requires.0.thick))
-    (λ c. let b = thin c.before.before.before in omega (arith, c.row_of-row.ensures, (s b).requires.1, (s b).requires.0.high, (s b).requires.0.thick))
-    (λ c. let b = thin c.before.before.before in omega (arith, allowed-to _ _ (member b)))
+    (λ c. let b = c.before.before.before.before.before in omega (arith, (s b).requires.0.thick))
+    (λ c. let b = c.before.before.before.before.before in omega (arith, c.row_of-row.ensures, (s b).requires.1, (s b).requires.0.high, (s b).requires.0.thick))
+    (λ c. let b = c.before.before.before.before.before in omega (arith, allowed-to _ _ (member b)))
     (λ c κs. search rules)
-    (λ c. let k = c.before in out-bound _ _ _ _ _ _ (member (d k)) (ends (e k)) (omega (arith, reads k)))
+    (λ c. let k = c.before in out-bound _ _ _ _ _ _ (member (d k)) (top k) (omega (arith, reads k)))
     (λ c. search rules)
     returns-5)

@@ -36,11 +36,6 @@ module _ (c : tie.After-datum_at) where
   start-in : starts (tmax i.args.s.members) (datum (i.args.sequence.now ! 0)) ≡ true
   start-in = sym (start_is i) ∙ c.if-not-is_start.false
 
-returns-3 : tie.Need-returns-then-datum_at-le32
-returns-3 c =
-    let d = c.before.before in
-    ap (λ (r : Refusal). told (Refused r)) c.refusal_at-then-datum_at-le32.ensures ∙ out_first _ _ _ _ _ (omega arith) (start-in d) (omega (arith, d.datum_at.ensures.0))
-
 recount-layers-requires : tie.Need-recount_layers-requires
 recount-layers-requires c κs =
     let d = c.before in
@@ -58,6 +53,8 @@ recount_sequence_spec =
     returns-2
     (λ c κs. search rules)
     (λ c κs. search rules)
-    returns-3
+    (λ c.
+    let d = c.before.before in
+    ap (λ (r : Refusal). told (Refused r)) c.refusal_at-then-datum_at-le32.ensures ∙ out_first _ _ _ _ _ (omega arith) (start-in d) (omega (arith, d.datum_at.ensures.0)))
     recount-layers-requires
     (λ c. search rules))

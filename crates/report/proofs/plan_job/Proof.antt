@@ -7,12 +7,6 @@ use Rattle.report.proofs.Whole.{long-is, short-is, prints}
 use Rattle.report.proofs.plan_job.Statement.{statement}
 use Rattle.report.proofs.plan_job.Tie as tie
 
-returns : tie.Need-returns-then-count-gt-MOST
-returns c =
-    let a = c.args in
-    let wide = c.all-1.given in
-    prints a.input.now a.count _ wide c.put_refused-arg-1.given.0.1 _ _ _ long-fits c.put_refused.ensures (long-is _ (omega (arith, length-take a.count a.input.now)))
-
 returns-2 : tie.Need-returns
 returns-2 c =
     let a = c.args in
@@ -24,7 +18,10 @@ plan_job_spec =
     tie.close
     (tie.spec
     (λ c κs. search rules)
-    returns
+    (λ c.
+    let a = c.args in
+    let wide = c.all-1.given in
+    prints a.input.now a.count _ wide c.put_refused-arg-1.given.0.1 _ _ _ long-fits c.put_refused.ensures (long-is _ (omega (arith, length-take a.count a.input.now))))
     (λ c. let a = c.args in omega (arith, c.all-1.given, length-take a.count a.input.now))
     (λ c κs. search rules)
     returns-2)
