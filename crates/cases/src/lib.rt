@@ -1,10 +1,13 @@
 // What the programs over lists of cases have in common: a line of such a list, the bytes that it gives in hexadecimal, and lent bytes, which hold
-// marks before a call. Nothing here prints.
+// marks before a call. Nothing here prints; where the programs print has its name here.
 #![tactic(auto)]
 
 ghost use Rattle.std.specs.Prelude.{◌≡◌, ℕ, ◌+◌, ◌/◌, ◌%◌, ◌≤◌, ◌<◌, min, max, length, get_or, set, take};
 ghost use Rattle.lists.specs.Rewrite.{Span};
 ghost use Rattle.cases.specs.Cases.{part_of, digit_of, laid, with_half, with_byte, with_next, laid_by, digest_with, digest_of};
+
+// The file descriptor of standard output.
+pub const STDOUT: i32 = 1;
 
 // A part; the whole where there is no such part.
 pub fn part(bytes: &[u8], from: usize, to: usize) -> &[u8]

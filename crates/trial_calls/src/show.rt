@@ -1,11 +1,8 @@
 // What is printed: words, numbers and answers.
 use crate::line::numbers_in;
-use cases::{find, part};
+use cases::{STDOUT, find, part};
 use plate::refusal::Refusal;
 use text::put_signed;
-
-// The file descriptor of standard output.
-const STDOUT: i32 = 1;
 
 pub(crate) fn text(words: &[u8]) {
     io::write_all(STDOUT, words);

@@ -1,12 +1,9 @@
 // What is printed: words, numbers, refusals, and a table with what goes with it.
-use cases::part;
+use cases::{STDOUT, part};
 use plate::head::Head;
 use plate::refusal::Refusal;
 use plate::settings::{Made, Settings};
 use text::put_signed;
-
-// The file descriptor of standard output.
-const STDOUT: i32 = 1;
 
 pub(crate) fn text(words: &[u8]) {
     io::write_all(STDOUT, words);

@@ -1,9 +1,7 @@
 // What is printed: words, numbers and answers.
+use cases::STDOUT;
 use orders::{Order, Ordered};
 use plate::refusal::{Answer, Refusal};
-
-// The file descriptor of standard output.
-const STDOUT: i32 = 1;
 
 pub(crate) fn text(words: &[u8]) {
     io::write_all(STDOUT, words);

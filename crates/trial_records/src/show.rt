@@ -1,9 +1,7 @@
 // What is printed: words, numbers, refusals, and whether lent memory was kept.
+use cases::STDOUT;
 use plate::head::Head;
 use plate::refusal::Reason;
-
-// The file descriptor of standard output.
-const STDOUT: i32 = 1;
 
 pub(crate) fn text(words: &[u8]) {
     io::write_all(STDOUT, words);

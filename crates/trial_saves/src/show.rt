@@ -1,8 +1,6 @@
 // What is printed: words, numbers and answers.
+use cases::STDOUT;
 use plate::refusal::Answer;
-
-// The file descriptor of standard output.
-const STDOUT: i32 = 1;
 
 pub(crate) fn text(words: &[u8]) {
     io::write_all(STDOUT, words);

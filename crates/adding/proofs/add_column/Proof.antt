@@ -54,9 +54,8 @@ module _ (c : tie.In-Good) where
 returns : tie.Need-returns-in-Bad
 unfolding adding add_rest order_checks order_rest settings_checks
 returns c =
-    let s = c in
-    let held = held_in s.args.head s.args.table.now in
-    let column = column_of s.args.column.now in
+    let held = held_in c.args.head c.args.table.now in
+    let column = column_of c.args.column.now in
     refuses (adding held column) c.in-Bad.refusal (stopped c.check_adding-made.ensures (overfull_cell held column ∷ []) _ c.in-Bad.is)
 
 returns-2 : tie.Need-returns-in-Good

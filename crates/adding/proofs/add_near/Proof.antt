@@ -65,7 +65,7 @@ add_near_spec =
     (tie.spec
     invariant-loop
     decreases-loop
-    (λ c. let s = c in (omega arith, s.requires.1.1.0.1.order, span-end _ (span_none _ _ _) (omega arith) (omega arith)))
+    (λ c. (omega arith, c.requires.1.1.0.1.order, span-end _ (span_none _ _ _) (omega arith) (omega arith)))
     (λ c. omega (arith, c.loop-row-test.true))
     (λ c κs.
     let d = c.before in
@@ -80,7 +80,7 @@ add_near_spec =
       ),
     ))
     (λ c. let d = c.before.before.before.before in let k = (S (l d)).requires.0 in omega (arith, under d, k.rows_are, k.high, k.thick))
-    (λ c. let d = c in omega (arith, d.loop-row-test.true))
+    (λ c. omega (arith, c.loop-row-test.true))
     loop-again
     (λ c. c.loop-row.invariant.2.long)
     (λ c. let m = c.before in let s = S m in let e : m.loop-row.row ≡ s.args.to = omega (arith, m.loop-row.invariant.1) in span-end _ m.loop-row.invariant.2 (rw e (omega arith)) (rw e (omega arith))))

@@ -81,15 +81,14 @@ module _ (d : tie.In-loop-j invariant-loop decreases-loop) where
 -- up to the first boundary nothing is added
 loop-holds : tie.Need-loop-j-init invariant-loop decreases-loop
 loop-holds c =
-    let s = c in
-    let f = s.requires.1.1.0.1 in
-    let o = s.requires.1.1.0.0 in (
+    let f = c.requires.1.1.0.1 in
+    let o = c.requires.1.1.0.0 in (
       omega arith,
       omega (arith, f.near),
-      omega (arith, c.row_end-end.ensures, s.requires.0.thick),
-      c.inside_among-inside.ensures ∙ sym (inside-below s.args.column.now o.rising s.requires.0.thick f s.args.first (omega arith)),
-      span_rest s.args.first (span_none (s.args.row * s.args.s.tmax) _ s.args.table.now) (omega arith)
-          (λ j u v. omega (arith, adds-before s.requires.0 o f j (omega (arith, f.near)) v)),
+      omega (arith, c.row_end-end.ensures, c.requires.0.thick),
+      c.inside_among-inside.ensures ∙ sym (inside-below c.args.column.now o.rising c.requires.0.thick f c.args.first (omega arith)),
+      span_rest c.args.first (span_none (c.args.row * c.args.s.tmax) _ c.args.table.now) (omega arith)
+          (λ j u v. omega (arith, adds-before c.requires.0 o f j (omega (arith, f.near)) v)),
     )
 
 loop-again : tie.Need-loop-j-preserved-then-cap-lt4294967295 invariant-loop decreases-loop
@@ -133,14 +132,14 @@ add_row_spec =
     invariant-loop
     decreases-loop
     (λ c κs. search rules)
-    (λ c. let s = c in omega (arith, s.requires.1.1.0.1.near, s.requires.0.thick))
+    (λ c. omega (arith, c.requires.1.1.0.1.near, c.requires.0.thick))
     (λ c κs. search rules)
     loop-holds
     (λ c. let d = c.before in omega (arith, place d, (S d.before).requires.0.few-cells))
     (λ c. let d = c.before in omega (arith, place d, (S d.before).requires.0.few-cells))
     (λ c. let d = c.before in omega (arith, turn d, (S d.before).requires.0.thick))
     (λ c. let d = c.before.before in omega (arith, turn d, (S d.before).requires.0.thick))
-    (λ c. let d = c in d.loop-j.invariant.0)
+    (λ c. c.loop-j.invariant.0)
     (λ c. let d = c.before.before.before in omega (arith, turn d, (S d.before).requires.0.thick))
     (λ c. let d = c.before.before.before.before in omega (arith, turn d, (S d.before).requires.0.thick))
     (λ c. let d = c.before.before.before.before.before in omega (arith, count-le d, turn d, (S d.before).requires.0.thick))
@@ -158,4 +157,4 @@ add_row_spec =
     (λ c. let d = c.before.before.before.before.before.before in omega (arith, turn d))
     loop-again-2
     (λ c. c.loop-j.invariant.4.long)
-    (λ c. let l = c in span-end _ l.loop-j.invariant.4 (omega arith) (omega (arith, l.loop-j.invariant.2))))
+    (λ c. span-end _ c.loop-j.invariant.4 (omega arith) (omega (arith, c.loop-j.invariant.2))))

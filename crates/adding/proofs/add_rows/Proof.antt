@@ -85,7 +85,7 @@ add_rows_spec =
     (tie.spec
     invariant-loop
     decreases-loop
-    (λ c. let s = c in (reached-none s.requires.0 s.requires.1.1.0.0, refl, span-end _ (span_none 0 _ _) (omega arith) (omega arith)))
+    (λ c. (reached-none c.requires.0 c.requires.1.1.0.0, refl, span-end _ (span_none 0 _ _) (omega arith) (omega arith)))
     (λ c κs. search rules)
     (λ c. omega (arith, c.boundary_at-boundary.ensures.1, c.requires.0.thick))
     (λ c. let k = c.requires.0 in omega (arith, k.thin, k.order))

@@ -18,8 +18,7 @@ returns-2 : tie.Need-returns-in-Good
 unfolding order_checks
 returns-2 c =
     let n = c.new-made.ensures in
-    let s = c in
-    judges-then _ _ _ (head_checks s.args.head) (sym (ap said_made (sym c.in-Good.is) ∙ n.says)) c.check_rest.ensures
+    judges-then _ _ _ (head_checks c.args.head) (sym (ap said_made (sym c.in-Good.is) ∙ n.says)) c.check_rest.ensures
 
 pub check_adding_spec : {M : Type 1} → statement M
 check_adding_spec =

@@ -24,8 +24,7 @@ use Rattle.adding.proofs.check_rest.Tie as tie
 returns : tie.Need-returns-then-table-s
 unfolding order_rest short
 returns c =
-    let s = c in
-    let h : length s.args.table.now < cells_of s.args.head = omega (arith, cells-for s.requires) in
+    let h : length c.args.table.now < cells_of c.args.head = omega (arith, cells-for c.requires) in
     judges-bad _ _ _ _ _ (ap Bad c.refusal_at.ensures) (simp (lt-ltb _ _ h))
 
 -- past 3, and past 7
@@ -50,9 +49,8 @@ column-said held column room few said e = simp (le-ltb _ _ room, few) e
 order : (c : tie.After-check_column-order) → let s : tie.Start = c.before.before.before.before.before.before.before in
     said_by c.check_column-order.result ≡ first (order_rest (held_in s.args.head s.args.table.now) (column_of s.args.column.now))
 order c =
-    let s = c in
-    column-said (held_in s.args.head s.args.table.now) (column_of s.args.column.now) (room c.before.before.before) (few c.before) _
-    (c.check_column-order.ensures ∙ ap (λ (N : ℕ). first (column_checks N s.args.column.now)) (height-for s.requires))
+    column-said (held_in c.args.head c.args.table.now) (column_of c.args.column.now) (room c.before.before.before) (few c.before) _
+    (c.check_column-order.ensures ∙ ap (λ (N : ℕ). first (column_checks N c.args.column.now)) (height-for c.requires))
 
 pub check_rest_spec : {M : Type 1} → statement M
 check_rest_spec =

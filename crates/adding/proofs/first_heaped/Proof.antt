@@ -110,10 +110,10 @@ first_heaped_spec =
     (tie.spec
     invariant-loop
     decreases-loop
-    (λ c. let s = c in (reached-none s.requires.0 s.requires.1.1.0, λ i u. absurd (omega arith)))
+    (λ c. (reached-none c.requires.0 c.requires.1.1.0, λ i u. absurd (omega arith)))
     (λ c κs. search rules)
     (λ c. omega (arith, c.boundary_at-boundary.ensures.1, c.requires.0.thick))
-    (λ c. let s = c in omega (arith, s.requires.0.thin, s.requires.0.order))
+    (λ c. omega (arith, c.requires.0.thin, c.requires.0.order))
     (λ c κs. search rules)
     (λ c. omega (arith, c.if-near-to.true))
     (λ c κs.

@@ -80,17 +80,17 @@ heaped_row_spec =
     (tie.spec
     invariant-loop
     decreases-loop
-    (λ c. let s = c in omega (arith, row_in s.requires.0 s.args.row (omega arith), s.requires.0.few-cells))
-    (λ c κs. let s = c in (omega (arith, s.requires.1.1.0.1.near), (s.requires.0.thick, omega (arith, row_in s.requires.0 s.args.row (omega arith), s.requires.1.0.1))))
+    (λ c. omega (arith, row_in c.requires.0 c.args.row (omega arith), c.requires.0.few-cells))
+    (λ c κs. (omega (arith, c.requires.1.1.0.1.near), (c.requires.0.thick, omega (arith, row_in c.requires.0 c.args.row (omega arith), c.requires.1.0.1))))
     returns
     (λ c. let s = c.before.before.before.before.before in (omega arith, omega (arith, s.requires.1.1.0.1.near), λ i u. early s i (omega (arith, s.requires.1.1.0.1.near)) u))
-    (λ c. let s = c in omega (arith, s.requires.0.thick))
-    (λ c. let s = c in omega (arith, s.requires.0.thick))
+    (λ c. omega (arith, c.requires.0.thick))
+    (λ c. omega (arith, c.requires.0.thick))
     (λ c. let s = c.before.before.before.before.before.before.before.before.before.before in omega (arith, place s c.loop-j.j (omega arith), s.requires.0.few-cells))
     (λ c. let s = c.before.before.before.before.before.before.before.before.before.before in omega (arith, place s c.loop-j.j (omega arith), s.requires.0.few-cells))
     (λ c. let s = c.before.before.before.before.before.before.before.before.before.before.before in omega (arith, place s c.loop-j.j (omega arith), s.requires.1.0.1))
     returns-2
-    (λ c. let s = c in omega (arith, s.requires.0.thick))
+    (λ c. omega (arith, c.requires.0.thick))
     (λ c. omega arith)
     loop-again
     (λ c. missed _ _ _ (omega arith) (omega arith) c.loop-j.invariant.2))

@@ -39,9 +39,8 @@ any_apart_spec =
     (λ c. search rules)
     (λ c. search rules)
     (λ c κs.
-    let l = c in
-    let b = l.requires.1 in
-    (b.0.are l.loop-j.j (omega arith), b.1.are _ (omega arith)))
+    let b = c.requires.1 in
+    (b.0.are c.loop-j.j (omega arith), b.1.are _ (omega arith)))
     (λ c. search rules)
     (λ c. search rules)
     loop-again

@@ -16,16 +16,14 @@ returns-2 : tie.Need-returns-in-Good
 unfolding both_checks
 returns-2 c =
     let p = c.before.before in
-    let s = p in
-    judges-then _ _ _ (pair_checks s.args.head s.args.other_head) (sym (ap said_made (sym c.in-Good.is) ∙ p.pair_of-made.ensures.says)) c.check_rest.ensures
+    judges-then _ _ _ (pair_checks p.args.head p.args.other_head) (sym (ap said_made (sym c.in-Good.is) ∙ p.pair_of-made.ensures.says)) c.check_rest.ensures
 
 check-rest-requires : tie.Need-check_rest-requires
 check-rest-requires c κs =
     let p = c.before in
-    let s = p in
     let g = p.pair_of-made.ensures.good _ c.in-Good.is in
-    let k : SettingsFor s.args.head c.in-Good.s = record { is = g.0; sound = g.1 } in
-    ((k, pair-passed s.args.head s.args.other_head k (ap said_made (sym c.in-Good.is) ∙ p.pair_of-made.ensures.says)), s.requires)
+    let k : SettingsFor p.args.head c.in-Good.s = record { is = g.0; sound = g.1 } in
+    ((k, pair-passed p.args.head p.args.other_head k (ap said_made (sym c.in-Good.is) ∙ p.pair_of-made.ensures.says)), p.requires)
 
 pub check_both_spec : {M : Type 1} → statement M
 check_both_spec =

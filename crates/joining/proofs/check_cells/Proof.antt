@@ -28,22 +28,19 @@ check_cells_spec =
     (λ c κs. search rules)
     (λ c. search rules)
     (λ c.
-    let t = c in
-    let w = t.requires.0 in
-    one-said _ _ _ (ap said_made (sym c.in-Bad.is) ∙ t.check_table-made.ensures.says ∙ table-asks-cells _ w.fine w.room w.few))
+    let w = c.requires.0 in
+    one-said _ _ _ (ap said_made (sym c.in-Bad.is) ∙ c.check_table-made.ensures.says ∙ table-asks-cells _ w.fine w.room w.few))
     (λ c. search rules)
     (λ c κs. search rules)
     (λ c. search rules)
     (λ c.
     let t = c.before in
-    let u = t in
-    let p = u.requires in
+    let p = t.requires in
     (ap said_made (sym c.in-Bad-second.is) ∙ t.check_table-second.ensures.says ∙ table-asks-cells _ p.1.fine p.1.room p.1.few)
-    ∙ two_said _ _ (ap said_made (sym t.in_default.is) ∙ u.check_table-made.ensures.says ∙ table-asks-cells _ p.0.fine p.0.room p.0.few))
+    ∙ two_said _ _ (ap said_made (sym t.in_default.is) ∙ t.check_table-made.ensures.says ∙ table-asks-cells _ p.0.fine p.0.room p.0.few))
     (λ c. search rules)
     (λ c.
     let t = c.before in
-    let u = t in
-    let p = u.requires in
+    let p = t.requires in
     (ap said_made (sym c.in_default-second.is) ∙ t.check_table-second.ensures.says ∙ table-asks-cells _ p.1.fine p.1.room p.1.few)
-    ∙ two_said _ _ (ap said_made (sym t.in_default.is) ∙ u.check_table-made.ensures.says ∙ table-asks-cells _ p.0.fine p.0.room p.0.few)))
+    ∙ two_said _ _ (ap said_made (sym t.in_default.is) ∙ t.check_table-made.ensures.says ∙ table-asks-cells _ p.0.fine p.0.room p.0.few)))

@@ -36,13 +36,11 @@ check_part_spec =
     (λ c κs. search rules)
     (λ c.
     let f = c.before.before.before in
-    let l = f in
-    let k = l.requires.0 in
+    let k = f.requires.0 in
     judges-bad _ _ _ _ _ (ap Bad c.refusal_at-then-at-s.ensures)
-    (part-not _ _ (sym l.is_less.ensures ∙ f.if-is_less.false) _ f.first_not_part-at.ensures (omega (arith, cells-for k))))
+    (part-not _ _ (sym f.is_less.ensures ∙ f.if-is_less.false) _ f.first_not_part-at.ensures (omega (arith, cells-for k))))
     (λ c.
     let f = c.before.before in
-    let l = f in
-    let k = l.requires.0 in
+    let k = f.requires.0 in
     judges-good _ _ _ _ _ refl (k.is, k.sound)
-    (part-done _ _ (sym l.is_less.ensures ∙ f.if-is_less.false) _ f.first_not_part-at.ensures (omega (arith, cells-for k)))))
+    (part-done _ _ (sym f.is_less.ensures ∙ f.if-is_less.false) _ f.first_not_part-at.ensures (omega (arith, cells-for k)))))

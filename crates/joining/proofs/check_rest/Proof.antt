@@ -46,8 +46,7 @@ said c =
 returns : tie.Need-returns-then-table-s
 unfolding rest_checks short
 returns c =
-    let s = c in
-    let h : length s.args.table.now < cells_of s.args.head = omega (arith, cells-for s.requires.0.0) in
+    let h : length c.args.table.now < cells_of c.args.head = omega (arith, cells-for c.requires.0.0) in
     judges-bad _ _ _ _ _ (ap Bad c.refusal_at.ensures) (simp (lt-ltb _ _ h))
 
 returns-2 : tie.Need-returns-then-other-s

@@ -28,11 +28,10 @@ returns c =
     (row l c.loop-row-test.true) (omega arith)
 
 loop-again : tie.Need-loop-row-preserved invariant-loop decreases-loop
-loop-again c =
-    let l = c in (
-      omega arith,
-      λ i u. row-missed _ _ _ l.loop-row.invariant.1 _ (λ j v. apart-row _ _ _ _ l.loop-row.row j v) _ c.apart_row-j.ensures (omega arith) i (omega arith),
-    )
+loop-again c = (
+  omega arith,
+  λ i u. row-missed _ _ _ c.loop-row.invariant.1 _ (λ j v. apart-row _ _ _ _ c.loop-row.row j v) _ c.apart_row-j.ensures (omega arith) i (omega arith),
+)
 
 returns-2 : tie.Need-returns invariant-loop decreases-loop
 returns-2 c =

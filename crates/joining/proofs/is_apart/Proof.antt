@@ -20,4 +20,4 @@ is_apart_spec =
     tie.close
     (tie.spec
     (λ c κs. search rules)
-    (λ c. let s = c in apart-is _ _ _ _ s.requires.0 s.requires.1 (omega arith) (omega arith) c.wrapping_sub_u32.ensures (dec_lt _ _)))
+    (λ c. apart-is _ _ _ _ c.requires.0 c.requires.1 (omega arith) (omega arith) c.wrapping_sub_u32.ensures (dec_lt _ _)))

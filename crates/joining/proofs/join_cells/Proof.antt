@@ -24,8 +24,7 @@ join_cells_spec =
     (λ c. search rules)
     (λ c.
     let l = c.loop-i in
-    let s = c in
-    omega (arith, span-unread l.invariant.1 l.i (omega arith), s.requires.1 l.i (omega arith)))
+    omega (arith, span-unread l.invariant.1 l.i (omega arith), c.requires.1 l.i (omega arith)))
     (λ c. search rules)
     (λ c. search rules)
     (λ c. search rules)

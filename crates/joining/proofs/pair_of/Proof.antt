@@ -24,11 +24,10 @@ module _ (head other : Head) where
   differ-not e q = simp (eq-eqb head.height other.height e, eq-eqb head.members other.members q)
 
 -- past 1 and 2 of both, what is left of the checks
-left : (c : tie.In-Good-second) → let s = c in first (differ s.args.head s.args.other ∷ []) ≡ first (pair_checks s.args.head s.args.other)
+left : (c : tie.In-Good-second) → first (differ c.args.head c.args.other ∷ []) ≡ first (pair_checks c.args.head c.args.other)
 unfolding pair_checks
 left c =
-    let n = c in
-    passed c.new-second.ensures _ _ c.in-Good-second.is ∙ passed n.new-made.ensures _ _ c.in-Good.is
+    passed c.new-second.ensures _ _ c.in-Good-second.is ∙ passed c.new-made.ensures _ _ c.in-Good.is
 
 returns : tie.Need-returns-then-head-other
 returns c = judges-bad _ _ _ _ _ (ap Bad c.refusal_at.ensures) (differ-height _ _ c.if-head-other.true ∙ left c.before.before.before.before)
@@ -46,15 +45,13 @@ returns-4 : tie.Need-returns-in-Bad-second
 unfolding pair_checks
 returns-4 c =
     let m = c.in-Bad-second in
-    let n = c in
     judges-bad _ _ _ _ _ refl
-    (stopped c.new-second.ensures _ m.refusal m.is ∙ passed n.new-made.ensures _ _ c.in-Good.is)
+    (stopped c.new-second.ensures _ m.refusal m.is ∙ passed c.new-made.ensures _ _ c.in-Good.is)
 
 returns-5 : tie.Need-returns-else-head-other-2
 returns-5 c =
     let t = c.before.before.before.before.before.before in
-    let n = t in
-    judges-good _ _ _ _ _ refl (n.new-made.ensures.good _ t.in-Good.is)
+    judges-good _ _ _ _ _ refl (t.new-made.ensures.good _ t.in-Good.is)
     (differ-not _ _ c.if-head-other.false c.if-head-other-2.false ∙ left t)
 
 pub pair_of_spec : {M : Type 1} → statement M

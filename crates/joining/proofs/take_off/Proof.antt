@@ -49,9 +49,8 @@ module _ (c : tie.In-Good) where
 returns : tie.Need-returns-in-Bad
 unfolding taking
 returns c =
-    let d = c in
-    let a = d.args in
-    judged-bad (taking (held_in a.head a.table.now) (held_in a.other_head a.other.now)) d.check_taking-made.ensures _ c.in-Bad.is
+    let a = c.args in
+    judged-bad (taking (held_in a.head a.table.now) (held_in a.other_head a.other.now)) c.check_taking-made.ensures _ c.in-Bad.is
 
 returns-2 : tie.Need-returns-in-Good
 unfolding taking

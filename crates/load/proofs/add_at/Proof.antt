@@ -15,12 +15,10 @@ use Rattle.load.proofs.add_at.Tie as tie
 
 returns : tie.Need-returns
 returns c =
-    let d = c in
-    let b = d in
-    let a = b.args in
-    subst (λ (n : ℕ). Does (adding (held_in a.head a.table.now) (column_of (words a.input.now a.start n))) (told_table d.add_decoded.result) d.add_decoded.new.table)
-    (length-take-le {A = ℕ} a.count (replicate most_boundaries 0) b.requires)
-    d.add_decoded.ensures
+    let a = c.args in
+    subst (λ (n : ℕ). Does (adding (held_in a.head a.table.now) (column_of (words a.input.now a.start n))) (told_table c.add_decoded.result) c.add_decoded.new.table)
+    (length-take-le {A = ℕ} a.count (replicate most_boundaries 0) c.requires)
+    c.add_decoded.ensures
 
 pub add_at_spec : {M : Type 1} → statement M
 add_at_spec = tie.close (tie.spec (λ c. search rules) (λ c. sym (length-take-le _ _ c.requires)) (λ c κs. search rules) (λ c. search rules) returns)

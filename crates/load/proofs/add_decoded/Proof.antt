@@ -12,11 +12,9 @@ use Rattle.load.proofs.add_decoded.Tie as tie
 
 returns : tie.Need-returns
 returns c =
-    let d = c in
-    let b = d in
-    let a = b.args in
-    subst (λ (bs : List ℕ). Does (adding (held_in a.head a.table.now) (column_of bs)) (told_table d.add_column.result) d.add_column.new.table) b.read_words.ensures
-    d.add_column.ensures
+    let a = c.args in
+    subst (λ (bs : List ℕ). Does (adding (held_in a.head a.table.now) (column_of bs)) (told_table c.add_column.result) c.add_column.new.table) c.read_words.ensures
+    c.add_column.ensures
 
 pub add_decoded_spec : {M : Type 1} → statement M
 add_decoded_spec = tie.close (tie.spec (λ c κs. search rules) (λ c κs. search rules) (λ c. search rules) (λ c. search rules) returns)

@@ -31,9 +31,7 @@ module _ (s : List ℕ) (head : Head) (r : Read) (old : List ℕ) (start count :
 
 returns : tie.Need-returns-in-Column
 returns c =
-    let d = c in
-    let b = d in
-    one-added _ _ _ _ _ _ b.in-Column.is b.requires _ _ d.add_at.ensures
+    one-added _ _ _ _ _ _ c.in-Column.is c.requires _ _ c.add_at.ensures
 
 pub add_read_spec : {M : Type 1} → statement M
 add_read_spec =

@@ -20,31 +20,23 @@ loop-holds c = rw (c.new-state.ensures, c.new-cursor.ensures) (none-added _ _ _ 
 
 returns : tie.Need-returns-in-Refused invariant-loop decreases-loop
 returns c =
-    let d = c in
-    absurd (never _ _ _ d.requires d.loop-head.invariant _ d.read-step.ensures _ d.heed_of-heed.ensures _ c.in-Refused.is)
+    absurd (never _ _ _ c.requires c.loop-head.invariant _ c.read-step.ensures _ c.heed_of-heed.ensures _ c.in-Refused.is)
 
 returns-2 : tie.Need-returns-in-Ended invariant-loop decreases-loop
 returns-2 c =
-    let d = c in
-    all-filled _ _ _ d.requires d.loop-head.invariant _ d.read-step.ensures _ d.heed_of-heed.ensures c.in-Ended.is
+    all-filled _ _ _ c.requires c.loop-head.invariant _ c.read-step.ensures _ c.heed_of-heed.ensures c.in-Ended.is
 
 add-read-requires : tie.Need-add_read-requires invariant-loop decreases-loop
 add-read-requires c κs =
-    let d = c in
-    addable _ _ _ d.requires d.loop-head.invariant _ d.read-step.ensures
+    addable _ _ _ c.requires c.loop-head.invariant _ c.read-step.ensures
 
 loop-less : tie.Need-loop-head-smaller invariant-loop decreases-loop
 loop-less c =
-    let b = c in
-    let d = b in
-    omega (arith, ahead _ _ d.loop-head.invariant.reached _ d.read-step.ensures _ d.heed_of-heed.ensures b.in-Onward.is)
+    omega (arith, ahead _ _ c.loop-head.invariant.reached _ c.read-step.ensures _ c.heed_of-heed.ensures c.in-Onward.is)
 
 loop-again : tie.Need-loop-head-preserved invariant-loop decreases-loop
 loop-again c =
-    let a = c in
-    let b = a in
-    let d = b in
-    filled _ _ _ d.requires d.loop-head.invariant _ d.read-step.ensures _ d.heed_of-heed.ensures b.in-Onward.is _ a.add_read.ensures
+    filled _ _ _ c.requires c.loop-head.invariant _ c.read-step.ensures _ c.heed_of-heed.ensures c.in-Onward.is _ c.add_read.ensures
 
 pub fill_spec : {M : Type 1} → statement M
 fill_spec =

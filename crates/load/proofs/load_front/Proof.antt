@@ -13,22 +13,18 @@ byte c i = omega (arith, c.shared_slice_known-1.given i)
 
 fill-requires : tie.Need-fill-requires
 fill-requires c κs =
-    let d = c in
-    let b = d.before.before.before.before.before.before.before.before in
-    ready _ _ (byte b) _ b.requires _ _ _ d.clear_table-cleared.ensures _ (ap told_table c.in-Done.is)
+    let b = c.before.before.before.before.before.before.before.before in
+    ready _ _ (byte b) _ b.requires _ _ _ c.clear_table-cleared.ensures _ (ap told_table c.in-Done.is)
 
 returns : tie.Need-returns-in-Refused
 returns c =
-    let d = c in
-    let b = d.before.before.before.before.before.before.before in
-    too_short _ _ (byte b) _ b.requires _ _ _ d.clear_table-cleared.ensures c.in-Refused.refusal (ap told_table c.in-Refused.is)
+    let b = c.before.before.before.before.before.before.before in
+    too_short _ _ (byte b) _ b.requires _ _ _ c.clear_table-cleared.ensures c.in-Refused.refusal (ap told_table c.in-Refused.is)
 
 returns-2 : tie.Need-returns-in-Done
 returns-2 c =
-    let f = c in
-    let d = f in
-    let b = d.before.before.before.before.before.before.before.before.before.before.before in
-    loaded _ _ (byte b) _ b.requires _ _ _ d.clear_table-cleared.ensures _ (ap told_table f.in-Done.is) _ f.fill.ensures
+    let b = c.before.before.before.before.before.before.before.before.before.before.before in
+    loaded _ _ (byte b) _ b.requires _ _ _ c.clear_table-cleared.ensures _ (ap told_table c.in-Done.is) _ c.fill.ensures
 
 pub load_front_spec : {M : Type 1} → statement M
 load_front_spec =

@@ -15,22 +15,19 @@ use Rattle.orders.proofs.check_finish.Tie as tie
 
 returns : tie.Need-returns-then-word-read
 returns c =
-    let w = c in
     ap (λ (r : Refusal). some (numbered r)) c.refusal_at.ensures
-    ∙ finish-miscounted _ _ _ (λ e. c.if-word-read.true (w.word.ensures ∙ e))
+    ∙ finish-miscounted _ _ _ (λ e. c.if-word-read.true (c.word.ensures ∙ e))
 
 returns-2 : tie.Need-returns-then-read-s
 returns-2 c =
-    let i = c in
     ap (λ (r : Refusal). some (numbered r)) c.refusal_at-then-read-s.ensures
-    ∙ finish-low _ _ _ (sym i.word.ensures ∙ i.if-word-read.false) c.if-read-s.true
+    ∙ finish-low _ _ _ (sym c.word.ensures ∙ c.if-word-read.false) c.if-read-s.true
 
 returns-3 : tie.Need-returns
 returns-3 c =
-    let i = c in
-    let a = i.args in
+    let a = c.args in
     let past : 16 * a.read.layers + 6 ≡ 16 * a.read.layers + 4 + 2 = omega arith in
-    c.check_tail.ensures ∙ ap (λ (n : ℕ). first (tail a.file.now n ∷ [])) past ∙ finish-high _ _ _ (sym i.word.ensures ∙ i.if-word-read.false) c.if-read-s.false
+    c.check_tail.ensures ∙ ap (λ (n : ℕ). first (tail a.file.now n ∷ [])) past ∙ finish-high _ _ _ (sym c.word.ensures ∙ c.if-word-read.false) c.if-read-s.false
 
 pub check_finish_spec : {M : Type 1} → statement M
 check_finish_spec =

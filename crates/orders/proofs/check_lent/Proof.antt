@@ -17,9 +17,8 @@ returns c = unsettled _ _ _ _ c.new-made.ensures _ c.in_default.is
 
 returns-2 : tie.Need-returns-in-Refused
 returns-2 c =
-    let k = c in
-    unstepped _ _ _ _ k.new-made.ensures _ k.in-Good.is _
-    (ap said_by (sym c.in-Refused.is) ∙ k.check_step-checked.ensures)
+    unstepped _ _ _ _ c.new-made.ensures _ c.in-Good.is _
+    (ap said_by (sym c.in-Refused.is) ∙ c.check_step-checked.ensures)
 
 -- the step passed
 stepped : (m : tie.In_default-checked) → none ≡ first (step_check m.args.step ∷ [])
@@ -28,14 +27,12 @@ stepped m = ap said_by (sym m.in_default-checked.is) ∙ m.check_step-checked.en
 returns-3 : tie.Need-returns-then-cure-s
 returns-3 c =
     let m = c.before.before.before in
-    let k = m in
-    unlisted _ _ _ _ k.new-made.ensures _ k.in-Good.is (stepped m) _ c.refusal_at.ensures (omega arith)
+    unlisted _ _ _ _ m.new-made.ensures _ m.in-Good.is (stepped m) _ c.refusal_at.ensures (omega arith)
 
 returns-4 : tie.Need-returns
 returns-4 c =
     let m = c.before.before in
-    let k = m in
-    lent _ _ _ _ k.new-made.ensures _ k.in-Good.is (stepped m) (omega arith)
+    lent _ _ _ _ m.new-made.ensures _ m.in-Good.is (stepped m) (omega arith)
 
 pub check_lent_spec : {M : Type 1} → statement M
 check_lent_spec =

@@ -13,15 +13,11 @@ use Rattle.orders.proofs.check_next.Tie as tie
 returns : tie.Need-returns
 unfolding next_checks
 returns c =
-    let f = c in
-    let l = f in
-    let w = l in
-    let k = w in
-    let a = k.args in
+    let a = c.args in
     c.check_frame.ensures
     ∙ ap₂ (λ (p q : Bool). first (frame_checks a.file.now (16 * a.layers) p q))
-    (w.allowed_after.ensures ∙ ap (allowed_after a.layers) k.kind_at-kind.ensures)
-    (f.fits.ensures ∙ ap₂ fits k.kind_at-kind.ensures l.length_at.ensures)
+    (c.allowed_after.ensures ∙ ap (allowed_after a.layers) c.kind_at-kind.ensures)
+    (c.fits.ensures ∙ ap₂ fits c.kind_at-kind.ensures c.length_at.ensures)
 
 pub check_next_spec : {M : Type 1} → statement M
 check_next_spec =

@@ -58,9 +58,8 @@ loop-again c =
 returns-2 : tie.Need-returns invariant-loop decreases-loop
 unfolding first_uncured
 returns-2 c =
-    let a = c in
-    let l = layers-are a.args.sequence.now a.requires in
-    missed _ (count a.args.sequence.now) c.loop-k.k (omega (arith, l)) (omega (arith, l)) c.loop-k.invariant.1
+    let l = layers-are c.args.sequence.now c.requires in
+    missed _ (count c.args.sequence.now) c.loop-k.k (omega (arith, l)) (omega (arith, l)) c.loop-k.invariant.1
 
 pub first_uncured_spec : {M : Type 1} → statement M
 first_uncured_spec =
@@ -71,7 +70,7 @@ first_uncured_spec =
     (λ c. omega (arith, c.requires.layered))
     (λ c. (omega arith, λ j l. absurd (omega arith)))
     (λ c. search rules)
-    (λ c κs. let a = c in (a.requires, (omega arith, omega (arith, a.requires.layered))))
+    (λ c κs. (c.requires, (omega arith, omega (arith, c.requires.layered))))
     (λ c κs. c.distance.ensures.1)
     returns
     (λ c. search rules)

@@ -19,14 +19,12 @@ decreases-loop s step cure rise bits i₀ i = s.tmax - i
 returns : tie.Need-returns-then-lifts_by invariant-loop decreases-loop
 unfolding lifts_by
 returns c =
-    let l = c in
-    found _ _ _ (omega arith) l.loop-i.invariant.1 (sym c.lifts_by.ensures ∙ c.if-lifts_by.true)
+    found _ _ _ (omega arith) c.loop-i.invariant.1 (sym c.lifts_by.ensures ∙ c.if-lifts_by.true)
 
 loop-again : tie.Need-loop-i-preserved invariant-loop decreases-loop
 unfolding lifts_by
 loop-again c =
-    let l = c in
-    (omega arith, below_more _ _ l.loop-i.invariant.1 (sym c.lifts_by.ensures ∙ c.if-lifts_by.false))
+    (omega arith, below_more _ _ c.loop-i.invariant.1 (sym c.lifts_by.ensures ∙ c.if-lifts_by.false))
 
 pub lift_by_spec : {M : Type 1} → statement M
 lift_by_spec =
@@ -36,7 +34,7 @@ lift_by_spec =
     decreases-loop
     (λ c. (omega arith, λ j l. absurd (omega arith)))
     (λ c. search rules)
-    (λ c κs. let a = c in (omega (arith, a.requires.0.thick), a.requires.1.1))
+    (λ c κs. (omega (arith, c.requires.0.thick), c.requires.1.1))
     returns
     (λ c. search rules)
     (λ c. search rules)

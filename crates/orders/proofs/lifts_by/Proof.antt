@@ -17,5 +17,4 @@ lifts_by_spec =
     (λ c κs. usable-from _ _ _ (sym c.is_usable.ensures ∙ c.if-not-is_usable.false))
     (λ c κs. search rules)
     (λ c.
-    let u = c in
-    simp (sym u.is_usable.ensures ∙ u.if-not-is_usable.false) (ap (eqb _) c.height_bits.ensures)))
+    simp (sym c.is_usable.ensures ∙ c.if-not-is_usable.false) (ap (eqb _) c.height_bits.ensures)))

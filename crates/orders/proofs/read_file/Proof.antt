@@ -86,11 +86,10 @@ module _ (c : tie.In-loop-read invariant-loop decreases-loop) where
 
 returns : tie.Need-returns-in-Refused invariant-loop decreases-loop
 returns c =
-    let k = c in
-    let t = k.before.before in
+    let t = c.before.before in
     stop (m t) c.in-Refused.refusal
     (frame-stops (N (m t)) (T (m t)) (step (m t)) (cures (m t)) (file (m t)) (number (m t)) (read (m t)) (known (m t)) (walked (m t)) (n t) (more t) _
-    (ap said_by (sym c.in-Refused.is) ∙ k.check_next-framed.ensures))
+    (ap said_by (sym c.in-Refused.is) ∙ c.check_next-framed.ensures))
 
 -- behind the frame
 module _ (c : tie.After-kind_at invariant-loop decreases-loop) where
@@ -114,12 +113,11 @@ returns-2 c =
 
 returns-3 : tie.Need-returns-in-Refused-layer invariant-loop decreases-loop
 returns-3 c =
-    let l = c in
-    let k = l.before.before.before in
+    let k = c.before.before.before in
     let t = turn k in
     stop (m t) c.in-Refused-layer.refusal
-    (layer-stops (N (m t)) (T (m t)) (step (m t)) (cures (m t)) (file (m t)) (number (m t)) (read (m t)) (known (m t)) (walked (m t)) (n t) (more t) (framed k) (not_last k l.if-kind_at-eq-FINISH.false) _
-    (subst (λ (x : Layer). Looked x (layer_checks (N (m t)) (T (m t)) (step (m t)) (cures (m t)) (file (m t)) (read (m t))) (thickness_at (T (m t)) (step (m t)) (cures (m t)) (file (m t)) (read (m t))) (read (m t)) (step (m t))) c.in-Refused-layer.is l.read_layer-layer.ensures))
+    (layer-stops (N (m t)) (T (m t)) (step (m t)) (cures (m t)) (file (m t)) (number (m t)) (read (m t)) (known (m t)) (walked (m t)) (n t) (more t) (framed k) (not_last k c.if-kind_at-eq-FINISH.false) _
+    (subst (λ (x : Layer). Looked x (layer_checks (N (m t)) (T (m t)) (step (m t)) (cures (m t)) (file (m t)) (read (m t))) (thickness_at (T (m t)) (step (m t)) (cures (m t)) (file (m t)) (read (m t))) (read (m t)) (step (m t))) c.in-Refused-layer.is c.read_layer-layer.ensures))
 
 -- a layer was read
 module _ (c : tie.In-Thick invariant-loop decreases-loop) where
@@ -180,8 +178,7 @@ loop-less g =
 
 returns-4 : tie.Need-returns invariant-loop decreases-loop
 returns-4 c =
-    let f = c in
-    let j = f.before.before.before.before in
+    let j = c.before.before.before.before in
     ap refusal c.refusal_at.ensures
     ∙ ap (λ (o : Option Numbered). told_by o (order_in (T j) (step j) (cures j) (file j) (number j))) (over (N j) (T j) (step j) (cures j) (file j) (number j) (read j) (known j) (walked j) (omega arith))
 
@@ -191,7 +188,7 @@ read_file_spec =
     (tie.spec
     invariant-loop
     decreases-loop
-    (λ c. let a = c in begun a.args.s.height a.args.s.members a.args.step a.args.cure.now a.args.file.now a.args.number a.requires.1 _)
+    (λ c. begun c.args.s.height c.args.s.members c.args.step c.args.cure.now c.args.file.now c.args.number c.requires.1 _)
     (λ c. omega (arith, low c.before))
     (λ c κs. low c.before.before)
     (λ c. search rules)

@@ -93,12 +93,11 @@ finish-requires c κs =
 returns-3 : tie.Need-returns
 unfolding filing
 returns-3 c =
-    let f = c in
-    let w = f.before.before.before.before.before.before in
+    let w = c.before.before.before.before.before.before in
     let m = before w in
     let room : file_size (count (zs m)) ≤ length (out m) = omega (arith, size_is m) in
     works (filing (step m) (cures m) (zs m) (out m)) _ _ (all_pass (step m) (cures m) (zs m) (out m) (omega (arith, first-is m, layers m)) room) (size_is m)
-    (f.write_finish.ensures
+    (c.write_finish.ensures
     ∙ ap (λ (n : ℕ). sets w.write_layers.new.out (16 * (length (zs m) - 1)) (framed finish_kind (bytes16 n))) (layers m)
     ∙ file-stored (step m) (cures m) (zs m) (out m) w.write_layers.new.out (16 * (length (zs m) - 1)) w.write_layers.ensures (omega (arith, layers m)) room)
 

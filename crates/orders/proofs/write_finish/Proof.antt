@@ -7,9 +7,7 @@ use Rattle.orders.proofs.write_finish.Tie as tie
 
 returns : tie.Need-returns
 returns c =
-    let w = c in
-    let a = w in
-    w.write_numbers.ensures ∙ finish-laid a.args.layers a.args.at a.args.out.now a.requires.1
+    c.write_numbers.ensures ∙ finish-laid c.args.layers c.args.at c.args.out.now c.requires.1
 
 pub write_finish_spec : {M : Type 1} → statement M
 write_finish_spec = tie.close (tie.spec (λ c. search rules) (λ c. search rules) (λ c κs. search rules) (λ c. search rules) returns)

@@ -9,13 +9,9 @@ use Rattle.orders.proofs.write_layer.Tie as tie
 
 returns : tie.Need-returns
 returns c =
-    let w = c in
-    let t = w in
-    let h = t in
-    let a = h in
-    w.write_numbers.ensures
-    ∙ layer-laid h.height_bits-lift.result t.cure_bits-time.result a.args.at a.args.out.now a.requires.1
-    ∙ ap₂ (λ (x y : ℕ). sets a.args.out.now a.args.at (layer_bytes x y)) h.height_bits-lift.ensures t.cure_bits-time.ensures
+    c.write_numbers.ensures
+    ∙ layer-laid c.height_bits-lift.result c.cure_bits-time.result c.args.at c.args.out.now c.requires.1
+    ∙ ap₂ (λ (x y : ℕ). sets c.args.out.now c.args.at (layer_bytes x y)) c.height_bits-lift.ensures c.cure_bits-time.ensures
 
 pub write_layer_spec : {M : Type 1} → statement M
 write_layer_spec =

@@ -60,16 +60,14 @@ layer-requires c κs =
 
 loop-again : tie.Need-loop-k-preserved invariant-loop decreases-loop
 loop-again c =
-    let w = c in
-    let e = w in
-    let m = e.before.before.before.before.before in
+    let m = c.before.before.before.before.before in
     let l = m.loop-k in
     let step = (a m).args.step in
-    let now = layer_bytes (height_bits step m.distance-rise.result) (cure_bits e.entry_of.result) in
-    let entry = e.entry_of.ensures ∙ ap (cure_of (cures m)) (m.distance-t.ensures.0 ∙ up_to m (k m)) in (
+    let now = layer_bytes (height_bits step m.distance-rise.result) (cure_bits c.entry_of.result) in
+    let entry = c.entry_of.ensures ∙ ap (cure_of (cures m)) (m.distance-t.ensures.0 ∙ up_to m (k m)) in (
       omega arith,
-      ap (λ (x : List ℕ). length x) w.write_layer.ensures ∙ length-sets l.out (16 * k m) now ∙ l.invariant.1,
-      w.write_layer.ensures
+      ap (λ (x : List ℕ). length x) c.write_layer.ensures ∙ length-sets l.out (16 * k m) now ∙ l.invariant.1,
+      c.write_layer.ensures
           ∙ ap₂ (λ (x y : ℕ). sets l.out (16 * k m) (layer_bytes (height_bits step x) (cure_bits y))) (m.distance-rise.ensures.0 ∙ up_to m 0) entry
           ∙ layer-stored step (cures m) (zs m) (a m).args.out.now l.out (k m) (16 * k m) l.invariant.2 refl
           ∙ ap (λ (n : ℕ). sets (a m).args.out.now 0 (bytes_of (record_bytes step) (layers_to (cures m) (zs m) n))) (sym (add-one (k m))),
@@ -78,9 +76,8 @@ loop-again c =
 returns : tie.Need-returns invariant-loop decreases-loop
 returns c =
     let l = c.loop-k in
-    let a = c in
-    let all : l.k ≡ count a.args.sequence.now = omega (arith, layers-are a.args.sequence.now a.requires.0.0) in
-    l.invariant.2 ∙ ap (λ (n : ℕ). sets a.args.out.now 0 (bytes_of (record_bytes a.args.step) (layers_to a.args.cure.now a.args.sequence.now n))) all
+    let all : l.k ≡ count c.args.sequence.now = omega (arith, layers-are c.args.sequence.now c.requires.0.0) in
+    l.invariant.2 ∙ ap (λ (n : ℕ). sets c.args.out.now 0 (bytes_of (record_bytes c.args.step) (layers_to c.args.cure.now c.args.sequence.now n))) all
 
 pub write_layers_spec : {M : Type 1} → statement M
 write_layers_spec =
@@ -91,9 +88,9 @@ write_layers_spec =
     (λ c. omega (arith, c.requires.0.0.layered))
     (λ c. (omega arith, refl, refl))
     (λ c. search rules)
-    (λ c κs. let a = c in (a.requires.0.0, (omega arith, omega (arith, a.requires.0.0.layered))))
+    (λ c κs. (c.requires.0.0, (omega arith, omega (arith, c.requires.0.0.layered))))
     (λ c. search rules)
-    (λ c κs. let a = c in (a.requires.0.0, (omega arith, omega (arith, a.requires.0.0.layered))))
+    (λ c κs. (c.requires.0.0, (omega arith, omega (arith, c.requires.0.0.layered))))
     (λ c. omega (arith, small c.before))
     (λ c κs. c.distance-t.ensures.1)
     layer-requires

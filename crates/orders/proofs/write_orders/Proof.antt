@@ -45,9 +45,8 @@ file-requires c κs =
 
 returns-3 : tie.Need-returns
 returns-3 c =
-    let w = c in
-    let n = w.before.before.before.before in
-    filed _ _ _ _ _ _ (passes (m n)) (ordered n) w.write_file.ensures
+    let n = c.before.before.before.before in
+    filed _ _ _ _ _ _ (passes (m n)) (ordered n) c.write_file.ensures
 
 pub write_orders_spec : {M : Type 1} → statement M
 write_orders_spec =

@@ -16,8 +16,7 @@ returns c =
 returns-2 : tie.Need-returns-in-Good
 returns-2 c =
     let n = c.new-made.ensures in
-    let s = c in
-    judges-then _ _ _ (head_checks s.args.head) (sym (ap said_made (sym c.in-Good.is) ∙ n.says)) c.check_rest.ensures
+    judges-then _ _ _ (head_checks c.args.head) (sym (ap said_made (sym c.in-Good.is) ∙ n.says)) c.check_rest.ensures
 
 pub check_plan_spec : {M : Type 1} → statement M
 check_plan_spec =

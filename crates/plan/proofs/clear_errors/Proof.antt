@@ -36,7 +36,7 @@ clear_errors_spec =
     (tie.spec
     invariant-loop
     decreases-loop
-    (λ c κs. let s = c in (s.requires.0, (s.requires.1.0, omega arith)))
+    (λ c κs. (c.requires.0, (c.requires.1.0, omega arith)))
     (λ c. (omega arith, span_none _ _ _))
     (λ c. let l = c.before.before in omega (arith, inside l c.loop-m-test.true, (s l).requires.0.few-entries))
     (λ c. let l = c.before.before in omega (arith, inside l c.loop-m-test.true, (s l).requires.0.few-entries))
@@ -45,4 +45,4 @@ clear_errors_spec =
     (λ c. omega arith)
     loop-again
     (λ c. c.loop-m.invariant.1.long)
-    (λ c. let l = c in span-end _ l.loop-m.invariant.1 (omega arith) (omega arith)))
+    (λ c. span-end _ c.loop-m.invariant.1 (omega arith) (omega arith)))

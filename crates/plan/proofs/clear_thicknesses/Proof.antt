@@ -33,4 +33,4 @@ clear_thicknesses_spec =
     (λ c. omega arith)
     loop-again
     (λ c. c.loop-i.invariant.1.long)
-    (λ c. let l = c in span-end _ l.loop-i.invariant.1 (omega arith) (omega arith)))
+    (λ c. span-end _ c.loop-i.invariant.1 (omega arith) (omega arith)))

@@ -20,15 +20,13 @@ pub end_count_spec : {M : Type 1} → statement M
 end_count_spec =
     tie.close
     (tie.spec
-    (λ c. let s = c in (omega arith, some s.args.s s.requires.0, λ m l u. omega arith))
-    (λ c κs. let s = c in (s.requires.0, (omega (arith, s.requires.1), s.requires.0.thin, s.requires.0.order)))
+    (λ c. (omega arith, some c.args.s c.requires.0, λ m l u. omega arith))
+    (λ c κs. (c.requires.0, (omega (arith, c.requires.1), c.requires.0.thin, c.requires.0.order)))
     (λ c.
-    let s = c in
-    omega (arith, c.layers_in-end.ensures, div-le_self (s.args.start - s.args.s.tmax) s.args.s.tmin, s.requires.0.rows_are, s.requires.0.high, s.requires.0.thick, s.requires.1))
-    (λ c. let s = c in (some s.args.s s.requires.0, omega arith, λ m l u. absurd (omega arith)))
-    (λ c.
-    let s = c in (
+    omega (arith, c.layers_in-end.ensures, div-le_self (c.args.start - c.args.s.tmax) c.args.s.tmin, c.requires.0.rows_are, c.requires.0.high, c.requires.0.thick, c.requires.1))
+    (λ c. (some c.args.s c.requires.0, omega arith, λ m l u. absurd (omega arith)))
+    (λ c. (
       omega arith,
       omega arith,
-      λ m l u. omega (arith, past s.args.s s.requires.0 (s.args.start - s.args.s.tmax) m (omega (arith, c.layers_in-end.ensures))),
+      λ m l u. omega (arith, past c.args.s c.requires.0 (c.args.start - c.args.s.tmax) m (omega (arith, c.layers_in-end.ensures))),
     )))

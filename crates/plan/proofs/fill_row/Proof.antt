@@ -59,9 +59,8 @@ step-row-requires c κs =
 
 loop-again : tie.Need-loop-t-preserved invariant-loop decreases-loop
 loop-again c =
-    let k = c in
-    let l = k.before.before.before.before.before.before.before.before.before in
-    (omega arith, row-again (o l).args.s _ _ (o l).requires.0 l.loop-t.invariant.1 k.step_row.ensures)
+    let l = c.before.before.before.before.before.before.before.before.before in
+    (omega arith, row-again (o l).args.s _ _ (o l).requires.0 l.loop-t.invariant.1 c.step_row.ensures)
 
 returns : tie.Need-returns invariant-loop decreases-loop
 returns c =
@@ -74,7 +73,7 @@ fill_row_spec =
     (tie.spec
     invariant-loop
     decreases-loop
-    (λ c κs. let s = c in (s.requires.0.sound, (s.requires.1.1.0.row, s.requires.1.1.0.errors-whole)))
+    (λ c κs. (c.requires.0.sound, (c.requires.1.1.0.row, c.requires.1.1.0.errors-whole)))
     (λ c. let r = c.before.before.before in omega (arith, (s r).requires.0.sound.thin))
     loop-holds
     (λ c. omega arith)

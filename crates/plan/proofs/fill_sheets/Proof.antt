@@ -49,10 +49,9 @@ fill-row-requires c κs =
 
 loop-again : tie.Need-loop-q-preserved invariant-loop decreases-loop
 loop-again c =
-    let r = c in
-    let l = r.before.before.before.before.before.before.before.before.before.before in
+    let l = c.before.before.before.before.before.before.before.before.before.before in
     let s = start l in
-    (omega arith, omega arith, omega (arith, r.raised-first.ensures), λ E F b. sheet-more s.args.s _ _ s.requires.0 (l.loop-q.invariant.3 E F b) r.fill_row.ensures)
+    (omega arith, omega arith, omega (arith, c.raised-first.ensures), λ E F b. sheet-more s.args.s _ _ s.requires.0 (l.loop-q.invariant.3 E F b) c.fill_row.ensures)
 
 returns : tie.Need-returns invariant-loop decreases-loop
 returns c =
@@ -67,7 +66,7 @@ fill_sheets_spec =
     invariant-loop
     decreases-loop
     (λ c κs. c.requires.1.1)
-    (λ c κs. let s = c in (s.requires.0, s.requires.1.0))
+    (λ c κs. (c.requires.0, c.requires.1.0))
     (λ c.
     let k = c.requires.0.sound in
     (omega arith, omega (arith, k.rows_are, k.low), omega arith, λ E F b. b))

@@ -14,4 +14,4 @@ layer_cell_spec =
     (λ c. omega (arith, c.requires.0.sound.rows_are, c.requires.0.sound.high, c.requires.0.sound.thick))
     (λ c. omega (arith, c.requires.0.sound.thick))
     (λ c κs. search rules)
-    (λ c. let s = c in c.cell_of.ensures ∙ cell-read _ _ _ _ _ _ s.requires.0.sound.greatest (omega (arith, s.requires.0.sound.thick))))
+    (λ c. c.cell_of.ensures ∙ cell-read _ _ _ _ _ _ c.requires.0.sound.greatest (omega (arith, c.requires.0.sound.thick))))

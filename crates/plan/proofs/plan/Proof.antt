@@ -55,8 +55,7 @@ module _ (c : tie.In-Good) where
 
 returns : tie.Need-returns-in-Bad
 returns c =
-    let k = c in
-    bad _ _ _ k.check_plan-made.ensures c.in-Bad.refusal c.in-Bad.is
+    bad _ _ _ c.check_plan-made.ensures c.in-Bad.refusal c.in-Bad.is
 
 plan-sheets-requires : tie.Need-plan_sheets-requires
 plan-sheets-requires c κs =
@@ -66,9 +65,8 @@ plan-sheets-requires c κs =
 
 returns-2 : tie.Need-returns-in-Good
 returns-2 c =
-    let p = c in
-    let k = p.before.before.before.before.before.before.before.before.before.before in
-    let w = p.plan_sheets.ensures in
+    let k = c.before.before.before.before.before.before.before.before.before.before in
+    let w = c.plan_sheets.ensures in
     good (held k) _ (lent k) (made k) (for k) (passed k) _ (λ i. sheets_of (w.0 i) (w.1.0 i) (w.1.1 i))
 
 pub plan_spec : {M : Type 1} → statement M

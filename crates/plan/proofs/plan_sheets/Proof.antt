@@ -6,9 +6,7 @@ use Rattle.plan.proofs.plan_sheets.Tie as tie
 
 fill-list-requires : tie.Need-fill_list-requires
 fill-list-requires c κs =
-    let f = c in
-    let s = f in
-    (s.requires.0, (planned-is s.args.s _ _ s.requires.0 _ _ s.requires.1.0 f.fill_sheets.ensures.0, s.requires.1.2))
+    (c.requires.0, (planned-is c.args.s _ _ c.requires.0 _ _ c.requires.1.0 c.fill_sheets.ensures.0, c.requires.1.2))
 
 pub plan_sheets_spec : {M : Type 1} → statement M
 plan_sheets_spec =

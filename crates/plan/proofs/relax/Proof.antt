@@ -47,7 +47,7 @@ pub relax_spec : {M : Type 1} → statement M
 relax_spec =
     tie.close
     (tie.spec
-    (λ c. let s = c in omega (arith, s.requires.1.1.0.above))
+    (λ c. omega (arith, c.requires.1.1.0.above))
     (λ c κs. let s = c.before.before.before in (s.requires.0.sound, (s.requires.1.0.row, first-in s)))
     (λ c. let e = c.before in omega (arith, (begun e).requires.0.sound.few-counts))
     (λ c. let e = c.before in omega (arith, under e, e.entry_of-at.ensures.1, (begun e).requires.0.sound.few-entries))

@@ -23,8 +23,8 @@ pub start_row_spec : {M : Type 1} → statement M
 start_row_spec =
     tie.close
     (tie.spec
-    (λ c κs. let s = c in let k = s.requires.0.sound in (k, (omega (arith, s.requires.1.0, k.rows_are, k.low), s.requires.1.1)))
-    (λ c κs. let s = c in let k = s.requires.0.sound in (k, (omega (arith, s.requires.1.0, k.rows_are, k.low), omega arith)))
+    (λ c κs. let k = c.requires.0.sound in (k, (omega (arith, c.requires.1.0, k.rows_are, k.low), c.requires.1.1)))
+    (λ c κs. let k = c.requires.0.sound in (k, (omega (arith, c.requires.1.0, k.rows_are, k.low), omega arith)))
     (λ c. omega (arith, c.entry_of-at.ensures.1, (s c).requires.0.sound.few-entries))
     (λ c. omega (arith, c.entry_of-at.ensures.1, (s c).requires.1.1, (errors c).clear_errors.ensures.long))
     (λ c. search rules)

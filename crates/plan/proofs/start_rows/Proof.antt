@@ -20,10 +20,7 @@ decreases-loop table s bound errors₀ q₀ errors q = s.tmax - q
 
 loop-again : tie.Need-loop-q-preserved invariant-loop decreases-loop
 loop-again c =
-    let r = c in
-    let l = r in
-    let s = l in
-    (omega arith, span-row (least_at s.args.s _) l.loop-q.q l.loop-q.invariant.1 r.start_row.ensures)
+    (omega arith, span-row (least_at c.args.s _) c.loop-q.q c.loop-q.invariant.1 c.start_row.ensures)
 
 pub start_rows_spec : {M : Type 1} → statement M
 start_rows_spec =
@@ -31,9 +28,9 @@ start_rows_spec =
     (tie.spec
     invariant-loop
     decreases-loop
-    (λ c. let s = c in (omega arith, span-end (row_start s.args.s.counts 0) (span_none 0 _ _) (omega arith) (omega arith)))
-    (λ c κs. let l = c in let s = l in (s.requires.0, (omega arith, omega (arith, s.requires.1, l.loop-q.invariant.1.long))))
-    (λ c. let s = c in omega (arith, s.requires.0.sound.thick))
+    (λ c. (omega arith, span-end (row_start c.args.s.counts 0) (span_none 0 _ _) (omega arith) (omega arith)))
+    (λ c κs. (c.requires.0, (omega arith, omega (arith, c.requires.1, c.loop-q.invariant.1.long))))
+    (λ c. omega (arith, c.requires.0.sound.thick))
     (λ c. omega arith)
     loop-again
     (λ c. c.loop-q.invariant.1.long)

@@ -9,9 +9,8 @@ use Rattle.readback.proofs.may_end.Tie as tie
 
 returns-2 : tie.Need-returns
 returns-2 c =
-    let s = c in
-    let a = s.args in
-    leb-same a.s.tmax a.row 33 (at_row a.s.tmax a.row) (λ l. omega arith) (λ l. omega (arith, s.requires.thick))
+    let a = c.args in
+    leb-same a.s.tmax a.row 33 (at_row a.s.tmax a.row) (λ l. omega arith) (λ l. omega (arith, c.requires.thick))
     ∙ that-one a.k 1 _ c.if-k-ne1.false
 
 pub may_end_spec : {M : Type 1} → statement M

@@ -11,9 +11,8 @@ use Rattle.readback.proofs.may_start.Tie as tie
 
 returns-2 : tie.Need-returns
 returns-2 c =
-    let s = c in
-    let a = s.args in
-    let k = s.requires in
+    let a = c.args in
+    let k = c.requires in
     leb-same (suc (a.row + 1)) (a.s.height + a.s.tmax) (suc (at_row a.s.tmax a.row)) (lowest_end a.s.height)
     (λ l. omega (arith, k.thick)) (λ l. omega (arith, k.thick))
     ∙ that-one a.k a.n _ c.if-k-n.false

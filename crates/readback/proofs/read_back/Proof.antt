@@ -7,21 +7,16 @@ use Rattle.readback.proofs.read_back.Tie as tie
 
 returns : tie.Need-returns-in-Bad
 returns c =
-    let k = c in
-    read-bad _ _ _ _ k.check_room-made.ensures c.in-Bad.refusal c.in-Bad.is
+    read-bad _ _ _ _ c.check_room-made.ensures c.in-Bad.refusal c.in-Bad.is
 
 read-entries-requires : tie.Need-read_entries-requires
 read-entries-requires c κs =
-    let m = c in
-    let k = m in
-    let a = k.args in
-    ((k.check_room-made.ensures.good _ m.in-Good.is).1, room-left a.errors.now a.thicknesses.now a.count a.out.now k.check_room-made.ensures _ m.in-Good.is)
+    let a = c.args in
+    ((c.check_room-made.ensures.good _ c.in-Good.is).1, room-left a.errors.now a.thicknesses.now a.count a.out.now c.check_room-made.ensures _ c.in-Good.is)
 
 returns-2 : tie.Need-returns-in-Good
 returns-2 c =
-    let r = c in
-    let m = r in
-    read-good _ _ _ _ m.check_room-made.ensures _ m.in-Good.is _ _ r.read_entries.ensures
+    read-good _ _ _ _ c.check_room-made.ensures _ c.in-Good.is _ _ c.read_entries.ensures
 
 pub read_back_spec : {M : Type 1} → statement M
 read_back_spec =

@@ -77,8 +77,8 @@ read_entries_spec =
     rw c.refusal_at.ensures
     (no_end _ _ _ _ _ _ (a e).requires.1
     (ends.without_end (a e).args.s (a e).requires.0 _ (errors-whole (a e)) _ (few (a e)) _ e.end_of-end.ensures (λ i. omega (arith, e.shared_slice_known-1.given i)) (omega arith))))
-    (λ c. let a = c in omega (arith, a.requires.0.high, a.requires.0.thick))
-    (λ c. let a = c in omega (arith, a.requires.0.low))
+    (λ c. omega (arith, c.requires.0.high, c.requires.0.thick))
+    (λ c. omega (arith, c.requires.0.low))
     (λ c. let e = c.before.before.before.before in omega (arith, (in-sheet e c.if-end.false).row, (a e).requires.0.rows_are, (a e).requires.0.high, (a e).requires.0.thick))
     (λ c. let e = c.before.before.before.before in omega (arith, (in-sheet e c.if-end.false).row, (a e).requires.0.rows_are, (a e).requires.0.high, (a e).requires.0.thick))
     (λ c. search rules)

@@ -48,8 +48,7 @@ module _ (c : tie.After-may_start) where
 
 returns-2 : tie.Need-returns-then-row-t
 returns-2 c =
-    let b = c in
-    sym (stepped-under _ _ b.args.n b.args.k (at_row b.args.s.tmax b.args.row) b.args.t (omega (arith, b.requires.greatest, b.requires.thick)))
+    sym (stepped-under _ _ c.args.n c.args.k (at_row c.args.s.tmax c.args.row) c.args.t (omega (arith, c.requires.greatest, c.requires.thick)))
 
 returns-3 : tie.Need-returns-then-not-may_start
 returns-3 c = let m = c.before in sym (rest (d m) ∙ rw (asked m false (c.if-not-may_start.true)))

@@ -14,16 +14,15 @@ inside s = row_in s.args.s s.requires.0 s.args.row s.args.m s.requires.1.row s.r
 
 returns : tie.Need-returns
 returns c =
-    let s = c in
-    ap (λ (i : ℕ). get_or s.args.thicknesses.now i 0) c.entry_index-at.ensures
-    ∙ entry_row s.args.s s.requires.0 s.args.thicknesses.now s.args.m s.args.row
+    ap (λ (i : ℕ). get_or c.args.thicknesses.now i 0) c.entry_index-at.ensures
+    ∙ entry_row c.args.s c.requires.0 c.args.thicknesses.now c.args.m c.args.row
 
 pub thickness_at_spec : {M : Type 1} → statement M
 thickness_at_spec =
     tie.close
     (tie.spec
-    (λ c. let s = c in omega (arith, s.requires.0.few-counts))
-    (λ c. let s = c in omega (arith, s.requires.1.count, s.requires.0.few-counts))
+    (λ c. omega (arith, c.requires.0.few-counts))
+    (λ c. omega (arith, c.requires.1.count, c.requires.0.few-counts))
     (λ c κs. search rules)
     (λ c. let s = c.before.before.before.before in omega (arith, c.entry_index-at.ensures, inside s, s.requires.1.whole))
     (λ c. omega (arith, c.shared_slice_known-2-1.given c.entry_index-at.result))

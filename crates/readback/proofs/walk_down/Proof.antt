@@ -71,9 +71,8 @@ module _ (c : tie.Else-not-reads_back invariant-loop decreases-loop) where
 
 returns : tie.Need-returns-then-not-reads_back invariant-loop decreases-loop
 returns c =
-    let l = c in
     faulted _ _ _ _ _ _ _
-    (l.loop-k.invariant.3 ∙ fault-here _ _ _ _ l.loop-k.k (at_row _ l.loop-k.row) _ (omega arith) c.thickness_at-t.ensures (asked c.before false (c.if-not-reads_back.true)))
+    (c.loop-k.invariant.3 ∙ fault-here _ _ _ _ c.loop-k.k (at_row _ c.loop-k.row) _ (omega arith) c.thickness_at-t.ensures (asked c.before false (c.if-not-reads_back.true)))
 
 loop-again : tie.Need-loop-k-preserved invariant-loop decreases-loop
 loop-again c =
@@ -102,10 +101,9 @@ returns-2 c =
 returns-3 : tie.Need-returns invariant-loop decreases-loop
 returns-3 c =
     let l = d c.before in
-    let s = l in
     record {
       ends = sym (l.loop-k.invariant.3 ∙ fine_end _ _ _ _ l.loop-k.k (at_row _ l.loop-k.row) (omega arith) (sym (start_is c.before) ∙ c.if-not-is_start.false));
-      notes = λ q. noted-last _ s.args.n l.loop-k.k (at_row s.args.s.tmax l.loop-k.row) _ l.loop-k.heights (omega arith) (omega arith) c.at_row-lowest.ensures ∙ l.loop-k.invariant.4;
+      notes = λ q. noted-last _ l.args.n l.loop-k.k (at_row l.args.s.tmax l.loop-k.row) _ l.loop-k.heights (omega arith) (omega arith) c.at_row-lowest.ensures ∙ l.loop-k.invariant.4;
     }
 
 pub walk_down_spec : {M : Type 1} → statement M
@@ -115,12 +113,12 @@ walk_down_spec =
     invariant-loop
     decreases-loop
     (λ c. (omega arith, omega arith, refl, refl, rw noted-none))
-    (λ c. let s = c in omega (arith, s.requires.0.thick))
+    (λ c. omega (arith, c.requires.0.thick))
     (λ c κs. search rules)
-    (λ c. let s = c in omega (arith, c.at_row-h.ensures, height-fits s.requires.0 c.loop-k.row (omega (arith, s.requires.1.0.row))))
+    (λ c. omega (arith, c.at_row-h.ensures, height-fits c.requires.0 c.loop-k.row (omega (arith, c.requires.1.0.row))))
     (λ c. omega arith)
     (λ c. omega arith)
-    (λ c κs. let s = c in (s.requires.0, record { whole = s.requires.1.0.whole; count = omega (arith, s.requires.1.0.count); row = omega (arith, s.requires.1.0.row) }))
+    (λ c κs. (c.requires.0, record { whole = c.requires.1.0.whole; count = omega (arith, c.requires.1.0.count); row = omega (arith, c.requires.1.0.row) }))
     (λ c κs. c.requires.0)
     (λ c. search rules)
     returns
@@ -128,12 +126,12 @@ walk_down_spec =
     (λ c. omega arith)
     (λ c. omega arith)
     loop-again
-    (λ c. let s = c in omega (arith, s.requires.0.thick))
+    (λ c. omega (arith, c.requires.0.thick))
     (λ c κs. search rules)
     (λ c κs. search rules)
     (λ c. search rules)
     returns-2
-    (λ c. let s = c in omega (arith, c.at_row-lowest.ensures, height-fits s.requires.0 (d c.before).loop-k.row (omega (arith, s.requires.1.0.row))))
+    (λ c. omega (arith, c.at_row-lowest.ensures, height-fits c.requires.0 (d c.before).loop-k.row (omega (arith, c.requires.1.0.row))))
     (λ c. omega arith)
     (λ c. search rules)
     returns-3)

@@ -22,11 +22,10 @@ decreases-loop heights n out₀ k₀ out k = n + 1 - k
 
 loop-again : tie.Need-loop-k-preserved invariant-loop decreases-loop
 loop-again c =
-    let l = c in
     let z = to_z-of_z w32 c.height_of.result (sfits_of c.height_of.type_inv) ∙ c.height_of.ensures in (
       omega arith,
-      length-set l.loop-k.out l.loop-k.k _ ∙ l.loop-k.invariant.1,
-      rw (l.loop-k.invariant.2, add-one) (written _ _ l.loop-k.k _ (omega arith) (omega arith) z),
+      length-set c.loop-k.out c.loop-k.k _ ∙ c.loop-k.invariant.1,
+      rw (c.loop-k.invariant.2, add-one) (written _ _ c.loop-k.k _ (omega arith) (omega arith) z),
     )
 
 pub write_heights_spec : {M : Type 1} → statement M
@@ -45,4 +44,4 @@ write_heights_spec =
     (λ c. omega arith)
     loop-again
     (λ c. c.loop-k.invariant.1)
-    (λ c. let l = c in let e : l.loop-k.k ≡ l.args.n + 1 = omega arith in l.loop-k.invariant.2 ∙ rw e))
+    (λ c. let e : c.loop-k.k ≡ c.args.n + 1 = omega arith in c.loop-k.invariant.2 ∙ rw e))

@@ -12,14 +12,12 @@ use Rattle.receive.proofs.check_cells.Tie as tie
 
 returns : tie.Need-returns-then-any_over
 returns c =
-    let i = c in
     ap (λ (r : Refusal). some (numbered r)) c.refusal_at.ensures
-    ∙ ap (λ (b : Bool). first (check 6 b i.args.at ∷ [])) (sym c.if-any_over.true ∙ i.any_over.ensures)
+    ∙ ap (λ (b : Bool). first (check 6 b c.args.at ∷ [])) (sym c.if-any_over.true ∙ c.any_over.ensures)
 
 returns-2 : tie.Need-returns
 returns-2 c =
-    let i = c in
-    ap (λ (b : Bool). first (check 6 b i.args.at ∷ [])) (sym c.if-any_over.false ∙ i.any_over.ensures)
+    ap (λ (b : Bool). first (check 6 b c.args.at ∷ [])) (sym c.if-any_over.false ∙ c.any_over.ensures)
 
 pub check_cells_spec : {M : Type 1} → statement M
 check_cells_spec =

@@ -37,19 +37,17 @@ module _ (a : tie.Start) where
 
 returns-2 : tie.Need-returns-then-word-s
 returns-2 c =
-    let w = c in
-    let a = w.before.before.before.before.before.before.before in
+    let a = c.before.before.before.before.before.before.before in
     ap (λ (r : Refusal). some (numbered r)) c.refusal_at-then-word-s.ensures ∙ refused a _
-    ∙ end-unequal (file a) (head_in (file a)) _ a.args.row (omega arith) (λ e. c.if-word-s.true (w.word.ensures ∙ word_at a ∙ e ∙ sym (rows_are a.requires.0)))
+    ∙ end-unequal (file a) (head_in (file a)) _ a.args.row (omega arith) (λ e. c.if-word-s.true (c.word.ensures ∙ word_at a ∙ e ∙ sym (rows_are a.requires.0)))
 
 returns-3 : tie.Need-returns
 returns-3 c =
-    let w = c in
-    let a = w.before.before.before.before.before.before.before in
+    let a = c.before.before.before.before.before.before.before in
     let behind : a.args.at + 6 ≡ place a + 4 + 2 = omega (arith, a.requires.1.1) in
     c.check_tail.ensures
     ∙ ap (λ (n : ℕ). first (tail (file a) n ∷ [])) behind
-    ∙ end-tail (file a) (head_in (file a)) _ a.args.row (omega arith) (sym (word_at a) ∙ sym w.word.ensures ∙ c.if-word-s.false ∙ rows_are a.requires.0)
+    ∙ end-tail (file a) (head_in (file a)) _ a.args.row (omega arith) (sym (word_at a) ∙ sym c.word.ensures ∙ c.if-word-s.false ∙ rows_are a.requires.0)
 
 pub check_end_spec : {M : Type 1} → statement M
 check_end_spec =

@@ -33,10 +33,9 @@ loop-holds c =
 
 returns : tie.Need-returns-in-Refused invariant-loop decreases-loop
 returns c =
-    let m = c in
-    let l = m.loop-row in
-    let a = m.args in
-    rows-stop a.file.now (head_in a.file.now) (a.s.rows - l.row) l.row (numbered c.in-Refused.refusal) (ap said_by (sym c.in-Refused.is) ∙ m.check_record-checked.ensures)
+    let l = c.loop-row in
+    let a = c.args in
+    rows-stop a.file.now (head_in a.file.now) (a.s.rows - l.row) l.row (numbered c.in-Refused.refusal) (ap said_by (sym c.in-Refused.is) ∙ c.check_record-checked.ensures)
     ∙ l.invariant.2
 
 -- a record passed

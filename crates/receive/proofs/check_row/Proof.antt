@@ -61,11 +61,10 @@ returns c =
 
 returns-2 : tie.Need-returns-then-word-start_bits
 returns-2 c =
-    let w = c in
-    let a = w.before.before.before.before.before.before.before in
+    let a = c.before.before.before.before.before.before.before in
     ap (λ (r : Refusal). some (numbered r)) c.refusal_at-then-word-start_bits.ensures ∙ refused a _
     ∙ row-elsewhere (file a) (head_in (file a)) _ a.args.row (omega arith)
-    (λ e. c.if-word-start_bits.true (w.word.ensures ∙ word_at a ∙ e ∙ sym (c.start_bits.ensures ∙ start_is a.requires.0.0 a.args.row)))
+    (λ e. c.if-word-start_bits.true (c.word.ensures ∙ word_at a ∙ e ∙ sym (c.start_bits.ensures ∙ start_is a.requires.0.0 a.args.row)))
 
 returns-3 : tie.Need-returns
 returns-3 c =

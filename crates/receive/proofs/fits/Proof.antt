@@ -15,8 +15,7 @@ returns c = simp (eq-eqb c.args.kind end_kind c.if-kind-eq-END.true)
 returns-2 : tie.Need-returns
 unfolding fits row_length
 returns-2 c =
-    let a = c in
-    ap (λ (n : ℕ). eqb a.args.length (2 + 4 * n)) a.requires.greatest ∙ simp (ne_eqb a.args.kind end_kind c.if-kind-eq-END.false)
+    ap (λ (n : ℕ). eqb c.args.length (2 + 4 * n)) c.requires.greatest ∙ simp (ne_eqb c.args.kind end_kind c.if-kind-eq-END.false)
 
 pub fits_spec : {M : Type 1} → statement M
 fits_spec = tie.close (tie.spec returns (λ c. search rules) (λ c. search rules) returns-2)

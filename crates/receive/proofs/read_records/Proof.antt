@@ -29,10 +29,8 @@ use Rattle.receive.proofs.read_records.Tie as tie
 
 records-requires : tie.Need-check_records-checked-requires
 records-requires c κs =
-    let l = c in
-    let a = l in
-    let head = head_in a.args.file.now in
-    (a.requires.1, subst (λ (h : Head). Limits h l.limits_of-limits.result) (ap capped l.head_in-head.ensures ∙ capped_same head (opened-few a.args.file.now a.requires.0)) l.limits_of-limits.ensures)
+    let head = head_in c.args.file.now in
+    (c.requires.1, subst (λ (h : Head). Limits h c.limits_of-limits.result) (ap capped c.head_in-head.ensures ∙ capped_same head (opened-few c.args.file.now c.requires.0)) c.limits_of-limits.ensures)
 
 -- the other records were judged
 module _ (m : tie.After-check_records-checked) where

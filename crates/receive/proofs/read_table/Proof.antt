@@ -10,18 +10,16 @@ use Rattle.receive.proofs.read_table.Tie as tie
 
 records-requires : tie.Need-read_records-requires
 records-requires c κs =
-    let made = c in
-    let j = made.check_opening-made.ensures in
-    let g = j.good _ made.in-Good.is in
-    (ap said_made (sym made.in-Good.is) ∙ j.says, record { is = g.0; sound = g.1 })
+    let j = c.check_opening-made.ensures in
+    let g = j.good _ c.in-Good.is in
+    (ap said_made (sym c.in-Good.is) ∙ j.says, record { is = g.0; sound = g.1 })
 
 returns : tie.Need-returns-in-Bad
 unfolding receiving
 returns c =
-    let m = c in
-    let a = m.args in
+    let a = c.args in
     refuses (receiving a.file.now a.table.now) c.in-Bad.refusal
-    (opening-stop a.file.now a.table.now _ (ap said_made (sym c.in-Bad.is) ∙ m.check_opening-made.ensures.says))
+    (opening-stop a.file.now a.table.now _ (ap said_made (sym c.in-Bad.is) ∙ c.check_opening-made.ensures.says))
 
 pub read_table_spec : {M : Type 1} → statement M
 read_table_spec =

@@ -9,11 +9,10 @@ use Rattle.receive.proofs.stands.Tie as tie
 
 returns-4 : tie.Need-returns
 returns-4 c = λ e.
-    let a = c in
     record {
       long = sym c.word_at.ensures ∙ c.if-word_at-length.false;
       kind-is = sym c.word_at-2.ensures ∙ c.if-word_at-ne-ROW.false;
-      starts = sym c.word_at-3.ensures ∙ eqb-true c.word_at-3.result a.args.start e;
+      starts = sym c.word_at-3.ensures ∙ eqb-true c.word_at-3.result c.args.start e;
       within = omega (arith, c.bytes_left.ensures);
     }
 

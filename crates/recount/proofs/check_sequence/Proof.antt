@@ -13,14 +13,12 @@ returns c = unsettled _ _ _ c.new-made.ensures _ c.in_default.is
 
 returns-2 : tie.Need-returns-in-Refused
 returns-2 c =
-    let n = c in
-    unbounded-out _ _ _ n.new-made.ensures _ n.in-Good.is _
+    unbounded-out _ _ _ c.new-made.ensures _ c.in-Good.is _
     (ap told (sym c.in-Refused.is) ∙ c.recount_sequence-counted.ensures)
 
 returns-3 : tie.Need-returns
 returns-3 c =
-    let n = c in
-    unbounded-in _ _ _ n.new-made.ensures _ n.in-Good.is _
+    unbounded-in _ _ _ c.new-made.ensures _ c.in-Good.is _
     (ap told (sym c.in_default-counted.is) ∙ c.recount_sequence-counted.ensures)
 
 pub check_sequence_spec : {M : Type 1} → statement M

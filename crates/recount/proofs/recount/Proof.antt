@@ -9,8 +9,7 @@ returns c = bad _ _ _ c.check_table-made.ensures c.in-Bad.refusal c.in-Bad.is
 
 returns-2 : tie.Need-returns-in-Good
 returns-2 c =
-    let m = c in
-    good _ _ _ m.check_table-made.ensures _ m.in-Good.is _ c.recount_sequence.ensures
+    good _ _ _ c.check_table-made.ensures _ c.in-Good.is _ c.recount_sequence.ensures
 
 pub recount_spec : {M : Type 1} → statement M
 recount_spec =

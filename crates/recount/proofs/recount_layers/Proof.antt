@@ -36,12 +36,11 @@ decreases-loop table s bound sequence n below₀ sum₀ k₀ below sum k = n - k
 
 loop-holds : tie.Need-loop-k-init invariant-loop decreases-loop
 loop-holds c =
-    let s = c in
-    let from = start-from _ _ s.requires.1.starts-in in
-    let to = start-to _ _ s.requires.1.starts-in in
+    let from = start-from _ _ c.requires.1.starts-in in
+    let to = start-to _ _ c.requires.1.starts-in in
     let d = c.datum_at-below.ensures.0 in
-    let g = s.requires.0.greatest in
-    (omega arith, omega (arith, s.requires.0.thick), omega arith, omega (arith, s.requires.0.low), omega arith, d, below_none _, refl)
+    let g = c.requires.0.greatest in
+    (omega arith, omega (arith, c.requires.0.thick), omega arith, omega (arith, c.requires.0.low), omega arith, d, below_none _, refl)
 
 -- a layer that is looked at, between the heights zk and z(k + 1)
 module _ (c : tie.After-look-layer invariant-loop decreases-loop) where

@@ -21,7 +21,7 @@ returns c = ap (λ (r : Refusal). told (Refused r)) c.refusal_at.ensures ∙ too
 
 -- whether the first is a start
 start_is : (c : tie.After-is_start) → c.is_start.result ≡ starts (tmax c.args.s.members) (datum (c.args.sequence.now ! 0))
-start_is c = let s = c in c.is_start.ensures ∙ ap₂ starts s.requires.greatest c.datum_at-start.ensures.0
+start_is c = c.is_start.ensures ∙ ap₂ starts c.requires.greatest c.datum_at-start.ensures.0
 
 returns-2 : tie.Need-returns-then-not-is_start
 returns-2 c =

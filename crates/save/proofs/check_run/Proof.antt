@@ -11,28 +11,24 @@ use Rattle.save.proofs.check_run.Tie as tie
 returns : tie.Need-returns-then-run-together
 unfolding run_checks
 returns c =
-    let a = c in
-    rw c.refusal_at.ensures (simp (lt-ltb (length a.args.run.now) (total a.args.counts.now) (omega (arith, a.requires.1.0))))
+    rw c.refusal_at.ensures (simp (lt-ltb (length c.args.run.now) (total c.args.counts.now) (omega (arith, c.requires.1.0))))
 
 returns-2 : tie.Need-returns-then-k-counts
 unfolding run_checks
 returns-2 c =
-    let a = c in
     rw c.refusal_at-then-k-counts.ensures
-    (simp (le-ltb (length a.args.run.now) (total a.args.counts.now) (omega (arith, a.requires.1.0)), ← c.first_disordered-k.ensures, lt-ltb _ _ c.if-k-counts.true))
+    (simp (le-ltb (length c.args.run.now) (total c.args.counts.now) (omega (arith, c.requires.1.0)), ← c.first_disordered-k.ensures, lt-ltb _ _ c.if-k-counts.true))
 
 returns-3 : tie.Need-returns-then-room-size
 unfolding run_checks
 returns-3 c =
-    let a = c in
     rw c.refusal_at-then-room-size.ensures
-    (simp (le-ltb (length a.args.run.now) (total a.args.counts.now) (omega (arith, a.requires.1.0)), ← c.first_disordered-k.ensures, le-ltb _ _ c.if-k-counts.false, lt-ltb a.args.room (file_size a.args.counts.now) (omega (arith, a.requires.1.1))))
+    (simp (le-ltb (length c.args.run.now) (total c.args.counts.now) (omega (arith, c.requires.1.0)), ← c.first_disordered-k.ensures, le-ltb _ _ c.if-k-counts.false, lt-ltb c.args.room (file_size c.args.counts.now) (omega (arith, c.requires.1.1))))
 
 returns-4 : tie.Need-returns
 unfolding run_checks
 returns-4 c =
-    let a = c in
-    simp (le-ltb (length a.args.run.now) (total a.args.counts.now) (omega (arith, a.requires.1.0)), ← c.first_disordered-k.ensures, le-ltb _ _ c.if-k-counts.false, le-ltb a.args.room (file_size a.args.counts.now) (omega (arith, a.requires.1.1)))
+    simp (le-ltb (length c.args.run.now) (total c.args.counts.now) (omega (arith, c.requires.1.0)), ← c.first_disordered-k.ensures, le-ltb _ _ c.if-k-counts.false, le-ltb c.args.room (file_size c.args.counts.now) (omega (arith, c.requires.1.1)))
 
 pub check_run_spec : {M : Type 1} → statement M
 check_run_spec =
@@ -40,7 +36,7 @@ check_run_spec =
     (tie.spec
     (λ c κs. search rules)
     returns
-    (λ c κs. let a = c in (a.requires.0, omega (arith, a.requires.1.0)))
+    (λ c κs. (c.requires.0, omega (arith, c.requires.1.0)))
     (λ c κs. search rules)
     returns-2
     (λ c κs. search rules)

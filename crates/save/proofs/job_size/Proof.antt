@@ -24,7 +24,7 @@ module _ (m : tie.In-Done) where
   tallied = told-value (count_checks counts) (total counts) _ (ap told (sym m.in-Done.is) ∙ m.tally-tallied.ensures)
 
 size-requires : tie.Need-size_of-requires
-size-requires c κs = let m = c in let right = counts-right (counts m) (tallied m).0 in (right.few, omega (arith, (tallied m).1, right.together))
+size-requires c κs = let right = counts-right (counts c) (tallied c).0 in (right.few, omega (arith, (tallied c).1, right.together))
 
 returns : tie.Need-returns-in-Refused
 unfolding size_answer

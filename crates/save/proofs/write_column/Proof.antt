@@ -7,11 +7,8 @@ use Rattle.save.proofs.write_column.Tie as tie
 
 returns : tie.Need-returns
 returns c =
-    let second = c in
-    let first = second in
-    let a = first in
-    second.write_numbers-2.ensures
-    ∙ column-laid a.args.column.now a.args.out.now first.write_numbers.new.out a.args.at a.requires.1 first.write_numbers.ensures
+    c.write_numbers-2.ensures
+    ∙ column-laid c.args.column.now c.args.out.now c.write_numbers.new.out c.args.at c.requires.1 c.write_numbers.ensures
 
 pub write_column_spec : {M : Type 1} → statement M
 write_column_spec =

@@ -7,9 +7,7 @@ use Rattle.save.proofs.write_end.Tie as tie
 
 returns : tie.Need-returns
 returns c =
-    let w = c in
-    let a = w in
-    w.write_numbers.ensures ∙ end-laid a.args.columns a.args.at a.args.out.now a.requires.1
+    c.write_numbers.ensures ∙ end-laid c.args.columns c.args.at c.args.out.now c.requires.1
 
 pub write_end_spec : {M : Type 1} → statement M
 write_end_spec = tie.close (tie.spec (λ c. search rules) (λ c. search rules) (λ c. search rules) (λ c κs. search rules) (λ c. search rules) returns)

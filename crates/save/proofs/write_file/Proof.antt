@@ -18,7 +18,7 @@ use Rattle.save.proofs.write_file.Tie as tie
 
 settings-requires : tie.Need-write_settings-requires
 unfolding file_size
-settings-requires c κs = let a = c in (a.requires.0, omega (arith, a.requires.1.1.1.0, a.requires.1.1.1.1))
+settings-requires c κs = (c.requires.0, omega (arith, c.requires.1.1.1.0, c.requires.1.1.1.1))
 
 -- past the settings
 module _ (m : tie.After-write_settings) where
@@ -53,27 +53,24 @@ columns-requires c κs =
 end-requires : tie.Need-write_end-requires
 unfolding file_size
 end-requires c κs =
-    let second = c in
-    let m = second.before.before.before.before.before.before.before in
+    let m = c.before.before.before.before.before.before.before in
     let p = (a m).requires.1 in
-    let long = ap (λ (l : List ℕ). length l) second.write_columns.ensures ∙ length-sets m.write_settings.new.out 14 (column_records (columns m)) in
+    let long = ap (λ (l : List ℕ). length l) c.write_columns.ensures ∙ length-sets m.write_settings.new.out 14 (column_records (columns m)) in
     ((counts-right (a m).args.counts.now p.0).few, omega (arith, long, first-long m, p.1.1.0, p.1.1.1))
 
 size-high : tie.Need-overflow_sub-size
 unfolding file_size
-size-high c = let a = c in omega (arith, a.requires.1.1.1.0)
+size-high c = omega (arith, c.requires.1.1.1.0)
 
 returns : tie.Need-returns
 unfolding written
 returns c =
-    let third = c in
-    let second = third in
-    let m = second.before.before.before.before.before.before.before.before.before.before in
+    let m = c.before.before.before.before.before.before.before.before.before.before in
     let asked = (a m).args.asked in
     let out = (a m).args.out.now in
     let end = end_record (length (a m).args.counts.now) in
-    third.write_end.ensures
-    ∙ stored-then m.write_settings.new.out second.write_columns.new.out 14 ((a m).args.size - 8) (column_records (columns m)) end second.write_columns.ensures (end-place m)
+    c.write_end.ensures
+    ∙ stored-then m.write_settings.new.out c.write_columns.new.out 14 ((a m).args.size - 8) (column_records (columns m)) end c.write_columns.ensures (end-place m)
     ∙ stored-then out m.write_settings.new.out 0 14 (settings_record asked) (column_records (columns m) ++ end) m.write_settings.ensures (omega (arith, length-settings asked))
     ∙ ap (λ (n : ℕ). sets out 0 (settings_record asked ++ (column_records (columns m) ++ end_record n))) (sym (length-columns_in (a m).args.counts.now (a m).args.run.now))
 

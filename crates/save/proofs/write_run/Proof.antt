@@ -19,15 +19,13 @@ use Rattle.save.proofs.write_run.Tie as tie
 
 size-requires : tie.Need-size_of-size-requires
 size-requires c κs =
-    let a = c in
-    let right = counts-right a.args.counts.now a.requires.1.0 in
-    (right.few, omega (arith, a.requires.1.1, right.together))
+    let right = counts-right c.args.counts.now c.requires.1.0 in
+    (right.few, omega (arith, c.requires.1.1, right.together))
 
 run-requires : tie.Need-check_run-checked-requires
 unfolding file_size
 run-requires c κs =
-    let a = c in
-    (a.requires.1.0, (a.requires.1.1, omega (arith, c.size_of-size.ensures, a.requires.1.1)))
+    (c.requires.1.0, (c.requires.1.1, omega (arith, c.size_of-size.ensures, c.requires.1.1)))
 
 -- past the checks on the run
 module _ (m : tie.After-check_run-checked) where

@@ -8,15 +8,13 @@ use Rattle.save.proofs.write_settings.Tie as tie
 
 returns : tie.Need-returns
 returns c =
-    let w = c in
-    let a = w in
-    w.write_numbers.ensures ∙ settings-laid a.args.asked a.args.out.now a.requires.1
+    c.write_numbers.ensures ∙ settings-laid c.args.asked c.args.out.now c.requires.1
 
 pub write_settings_spec : {M : Type 1} → statement M
 write_settings_spec =
     tie.close
     (tie.spec
-    (λ c. let a = c in omega (arith, a.requires.0))
+    (λ c. omega (arith, c.requires.0))
     (λ c. search rules)
     (λ c. search rules)
     (λ c. search rules)

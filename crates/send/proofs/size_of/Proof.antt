@@ -8,7 +8,7 @@ use Rattle.send.proofs.size_of.Tie as tie
 
 returns : tie.Need-returns
 unfolding row_place row_length
-returns c = let a = c in rw (← a.requires.greatest) (omega arith)
+returns c = rw (← c.requires.greatest) (omega arith)
 
 pub size_of_spec : {M : Type 1} → statement M
 size_of_spec =

@@ -8,8 +8,7 @@ use Rattle.send.proofs.write_end.Tie as tie
 returns : tie.Need-returns
 returns c =
     let w = c.before.before in
-    let a = w in
-    w.write_numbers.ensures ∙ end-laid a.args.rows a.args.at a.args.out.now a.requires.1
+    w.write_numbers.ensures ∙ end-laid w.args.rows w.args.at w.args.out.now w.requires.1
 
 pub write_end_spec : {M : Type 1} → statement M
 write_end_spec = tie.close (tie.spec (λ c. search rules) (λ c. search rules) (λ c κs. search rules) (λ c. search rules) returns)

@@ -82,7 +82,7 @@ write_file_spec =
     (tie.spec
     head-requires
     rows-requires
-    (λ c. let a = c in omega (arith, end-place a.requires.0, a.requires.1.1.0))
+    (λ c. omega (arith, end-place c.requires.0, c.requires.1.1.0))
     end-requires
     (λ c. search rules)
     returns)

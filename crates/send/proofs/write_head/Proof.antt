@@ -9,14 +9,13 @@ use Rattle.send.proofs.write_head.Tie as tie
 returns : tie.Need-returns
 returns c =
     let w = c.before.before in
-    let a = w in
-    w.write_numbers.ensures ∙ head-laid a.args.head a.args.out.now a.requires.1
+    w.write_numbers.ensures ∙ head-laid w.args.head w.args.out.now w.requires.1
 
 pub write_head_spec : {M : Type 1} → statement M
 write_head_spec =
     tie.close
     (tie.spec
-    (λ c. let a = c in omega (arith, a.requires.0))
+    (λ c. omega (arith, c.requires.0))
     (λ c. search rules)
     (λ c. search rules)
     (λ c. search rules)

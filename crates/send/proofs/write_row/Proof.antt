@@ -9,9 +9,8 @@ returns : tie.Need-returns
 returns c =
     let second = c.before.before in
     let first = second.before.before.before.before in
-    let a = first in
     second.store_cells.ensures
-    ∙ row_laid a.args.start a.args.row.now a.args.out.now first.write_numbers.new.out a.args.at a.requires.1 first.write_numbers.ensures
+    ∙ row_laid first.args.start first.args.row.now first.args.out.now first.write_numbers.new.out first.args.at first.requires.1 first.write_numbers.ensures
 
 pub write_row_spec : {M : Type 1} → statement M
 write_row_spec =

@@ -75,18 +75,17 @@ loop-again : tie.Need-loop-row-preserved invariant-loop decreases-loop
 loop-again c =
     let m = c.before.before.before.before.before.before.before in
     let l = m.loop-row in
-    let w = c in
     let out = (a m).args.out.now in
     let cells = part (a m).requires.0 (table m) out (a m).requires.1.0 (a m).requires.1.1 (row m) (base m) (next m) (low m) (from m) (at m) in
-    let record-of-row = framed row_kind (bytes16 w.start_bits.result ++ quad_bytes_of cells) in
-    let stored = w.write_row.ensures in (
+    let record-of-row = framed row_kind (bytes16 c.start_bits.result ++ quad_bytes_of cells) in
+    let stored = c.write_row.ensures in (
       omega (arith, low m),
       rw (from m) (omega arith),
       next_place (a m).requires.0 (table m) out (a m).requires.1.0 (a m).requires.1.1 (row m) (base m) (next m) (low m) (from m) (at m),
       ap (λ (x : List ℕ). length x) stored ∙ length-sets l.out (next m) record-of-row ∙ l.invariant.3,
       stored
-          ∙ row-stored (a m).requires.0 (table m) out (a m).requires.1.0 (a m).requires.1.1 (row m) (base m) (next m) (low m) (from m) (at m) l.out w.start_bits.result
-          w.start_bits.ensures l.invariant.4,
+          ∙ row-stored (a m).requires.0 (table m) out (a m).requires.1.0 (a m).requires.1.1 (row m) (base m) (next m) (low m) (from m) (at m) l.out c.start_bits.result
+          c.start_bits.ensures l.invariant.4,
     )
 
 returns : tie.Need-returns invariant-loop decreases-loop

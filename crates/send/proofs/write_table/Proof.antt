@@ -11,19 +11,17 @@ use Rattle.send.proofs.write_table.Tie as tie
 
 checked-requires : tie.Need-write_checked-requires
 checked-requires c κs =
-    let made = c in
-    let j = made.check_table-made.ensures in
-    let g = j.good _ made.in-Good.is in
-    (record { is = g.0; sound = g.1 }, ap said_made (sym made.in-Good.is) ∙ j.says)
+    let j = c.check_table-made.ensures in
+    let g = j.good _ c.in-Good.is in
+    (record { is = g.0; sound = g.1 }, ap said_made (sym c.in-Good.is) ∙ j.says)
 
 returns : tie.Need-returns-in-Bad
 unfolding sending
 returns c =
-    let m = c in
-    let a = m.args in
+    let a = c.args in
     let held : Held = held_in a.head a.table.now in
     refuses (sending held a.out.now) c.in-Bad.refusal
-    (table-stop held a.out.now _ (ap said_made (sym c.in-Bad.is) ∙ m.check_table-made.ensures.says))
+    (table-stop held a.out.now _ (ap said_made (sym c.in-Bad.is) ∙ c.check_table-made.ensures.says))
 
 pub write_table_spec : {M : Type 1} → statement M
 write_table_spec =

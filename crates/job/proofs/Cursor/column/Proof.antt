@@ -30,27 +30,22 @@ returns c = c.faulted.ensures ∙ body_refused _ _ _ kind.Column 7 (full _ _ _ (
 
 returns-2 : tie.Need-returns-then-count-gt-MOST_BOUNDARIES
 returns-2 c =
-    let d = c in
     c.faulted-then-count-gt-MOST_BOUNDARIES.ensures
     ∙ body_refused _ _ _ kind.Column 4
-    (column-refused _ _ _ (sym d.is_full.ensures ∙ d.if-is_full.false) _ (too_long _ _ _ (subst (λ (n : ℕ). most_boundaries < n / 2) d.length_at-count.ensures c.if-count-gt-MOST_BOUNDARIES.true)))
+    (column-refused _ _ _ (sym c.is_full.ensures ∙ c.if-is_full.false) _ (too_long _ _ _ (subst (λ (n : ℕ). most_boundaries < n / 2) c.length_at-count.ensures c.if-count-gt-MOST_BOUNDARIES.true)))
 
 returns-3 : tie.Need-returns-in-Refused
 returns-3 c =
-    let o = c in
-    let d = o in
     c.faulted-in-Refused.ensures
     ∙ body_refused _ _ _ kind.Column _
-    (column-refused _ _ _ (sym d.is_full.ensures ∙ d.if-is_full.false) _ (said _ _ _ _ _ _ d.length_at-count.ensures o.in-Refused.is o.check_at-order.ensures))
+    (column-refused _ _ _ (sym c.is_full.ensures ∙ c.if-is_full.false) _ (said _ _ _ _ _ _ c.length_at-count.ensures c.in-Refused.is c.check_at-order.ensures))
 
 returns-4 : tie.Need-returns
 returns-4 c =
-    let o = c in
-    let d = o in
-    let l = d.length_at-count.ensures in
+    let l = c.length_at-count.ensures in
     c.passed.ensures
     ∙ rw (c.counted.ensures, l)
-    (body-passed _ _ _ kind.Column (column-passed _ _ _ (sym d.is_full.ensures ∙ d.if-is_full.false) (said _ _ _ _ _ _ l o.in_default.is o.check_at-order.ensures)))
+    (body-passed _ _ _ kind.Column (column-passed _ _ _ (sym c.is_full.ensures ∙ c.if-is_full.false) (said _ _ _ _ _ _ l c.in_default.is c.check_at-order.ensures)))
 
 pub column_spec : {M : Type 1} → statement M
 column_spec =
@@ -69,6 +64,6 @@ column_spec =
     (λ c κs. search rules)
     returns-3
     (λ c. search rules)
-    (λ c κs. let d = c in sym d.is_full.ensures ∙ d.if-is_full.false)
+    (λ c κs. sym c.is_full.ensures ∙ c.if-is_full.false)
     (λ c κs. search rules)
     returns-4)

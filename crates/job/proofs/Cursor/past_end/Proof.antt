@@ -11,15 +11,13 @@ use Rattle.job.proofs.Cursor.past_end.Tie as tie
 
 returns : tie.Need-returns-in-Refused
 returns c =
-    let d = c in
     c.faulted.ensures
-    ∙ tail-refused d.args.input.now _ _ c.in-Refused.refusal (ap said_by (sym c.in-Refused.is) ∙ d.check_tail-rest.ensures)
+    ∙ tail-refused c.args.input.now _ _ c.in-Refused.refusal (ap said_by (sym c.in-Refused.is) ∙ c.check_tail-rest.ensures)
 
 returns-2 : tie.Need-returns
 returns-2 c =
-    let d = c in
-    let a = d.args in
-    ap (λ (o : Option Numbered). moved a.state a.self.at (told_by o (again a.state a.self.at))) (ap said_by (sym c.in_default.is) ∙ d.check_tail-rest.ensures)
+    let a = c.args in
+    ap (λ (o : Option Numbered). moved a.state a.self.at (told_by o (again a.state a.self.at))) (ap said_by (sym c.in_default.is) ∙ c.check_tail-rest.ensures)
 
 pub past_end_spec : {M : Type 1} → statement M
 past_end_spec =

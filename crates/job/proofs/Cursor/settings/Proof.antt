@@ -34,19 +34,17 @@ ten c = eqb-true (length_at c.args.input.now c.args.self.at) 10 c.requires.fits
 
 returns : tie.Need-returns-in-Bad
 returns c =
-    let d = c in
     c.faulted.ensures
     ∙ body_refused _ _ _ kind.Settings _
-    (settings-refused _ _ _ _ (bad _ _ _ _ _ d.new-made.ensures d.word-height.ensures d.quad-members.ensures c.in-Bad.refusal c.in-Bad.is))
+    (settings-refused _ _ _ _ (bad _ _ _ _ _ c.new-made.ensures c.word-height.ensures c.quad-members.ensures c.in-Bad.refusal c.in-Bad.is))
 
 returns-2 : tie.Need-returns-in-Good
 returns-2 c =
-    let d = c in
-    let w = d.word-height.ensures in
-    let q = d.quad-members.ensures in
+    let w = c.word-height.ensures in
+    let q = c.quad-members.ensures in
     c.passed.ensures
-    ∙ rw (c.begin.ensures, w, q, d.quad-bound.ensures)
-    (body-passed _ _ _ kind.Settings (settings-passed _ _ _ (good _ _ _ _ _ d.new-made.ensures w q _ c.in-Good.is)))
+    ∙ rw (c.begin.ensures, w, q, c.quad-bound.ensures)
+    (body-passed _ _ _ kind.Settings (settings-passed _ _ _ (good _ _ _ _ _ c.new-made.ensures w q _ c.in-Good.is)))
 
 pub settings_spec : {M : Type 1} → statement M
 settings_spec =
