@@ -6,7 +6,8 @@ use Prim.Native.Nat.{ℕ, zero, suc, ◌+◌, ◌-◌, ◌≤◌, ◌<◌}
 use native.Mathlib.Nat.{not-suc-le-zero, le_of_suc-le-suc}
 use native.Mathlib.Omega.{arith}
 use native.Mathlib.Decide.{dec_lt}
-use Rattle.lists.specs.Search.{lowest, some_below}
+use Rattle.lists.specs.Search.{lowest, IsLowest, some_below}
+use Rattle.std.specs.Prelude.{Option, None, Some, MatchOption}
 use Rattle.lists.proofs.Checks.{or-false}
 
 pub lowest-hit : (p : ℕ → Bool) (n i : ℕ) → i < n → ((k : ℕ) → k < i → p k ≡ false) → p i ≡ true → lowest p n ≡ i
@@ -61,6 +62,13 @@ lowest-same p q zero e = refl
 lowest-same p q (suc n) e =
     rw (e 0 (omega arith))
     (ap (λ (x : ℕ). cond (q 0) 0 (suc x)) (lowest-same (λ k. p (suc k)) (λ k. q (suc k)) n (λ k l. e (suc k) (omega arith))))
+
+-- the answer of a search through a range: what passes there is the lowest, and where nothing does there is none
+pub lowest-found : (p : ℕ → Bool) (n : ℕ) (answer : Option ℕ)
+    → MatchOption answer ((k : ℕ) → 0 ≤ k → k < n → p k ≡ false) (λ i. (0 ≤ i) × (i < n) × (p i ≡ true) × ((k : ℕ) → 0 ≤ k → k < i → p k ≡ false))
+    → IsLowest answer p n
+lowest-found p n None none = lowest-none p n (λ k l. none k (omega arith) l)
+lowest-found p n (Some i) some = (lowest-hit p n i some.1 (λ k l. some.3 k (omega arith) l) some.2, some.1)
 
 -- the two ways out of a loop that goes up from 0 and has found none below i
 pub found : (p : ℕ → Bool) (n i : ℕ) → i < n → ((k : ℕ) → k < i → p k ≡ false) → p i ≡ true → i ≡ lowest p n

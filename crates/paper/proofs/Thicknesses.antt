@@ -38,10 +38,6 @@ pub allowed-under : (T t : ℕ) → t < 1 → allowed T t ≡ false
 unfolding allowed
 allowed-under T t h = simp (lt-leb 1 t h)
 
-pub allowed-above : (T t : ℕ) → 32 < t → allowed T t ≡ false
-unfolding allowed
-allowed-above T t h = let k : 1 ≤ t = omega arith in simp (le-leb 1 t k, lt-leb t 32 h)
-
 pub allowed-bit : (T t : ℕ) → 1 ≤ t → t ≤ 32 → allowed T t ≡ eqb (T / 2 ^ (t - 1) % 2) 1
 unfolding allowed
 allowed-bit T t h k = simp (le-leb 1 t h, le-leb t 32 k)
