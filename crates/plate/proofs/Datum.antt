@@ -53,11 +53,6 @@ natural-sub a b = go (ltb a b) refl
     go true e = omega (arith, ltb-true a b e)
     go false e = refl
 
--- the sum with 32, and 0 where that is below 0
-pub datum-sum : (z : ℤ) → natural (z +ℤ pos 32) ≡ datum z
-datum-sum (pos n) = refl
-datum-sum (negsuc n) = natural-sub 32 (suc n) ∙ omega arith
-
 -- orders of whole numbers are orders of datum heights
 pub below-height : (z : ℤ) (h : ℕ) → 1 ≤ h → lt_z z (height_of h) ≡ ltb (datum z) h
 below-height z h p = go z (dec_lt h 32)

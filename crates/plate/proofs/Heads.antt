@@ -70,11 +70,6 @@ module _ (head : Head) where
   few-not-full l = lt-leb most_columns head.columns l
 
   module _ (other : Head) where
-    -- two tables' columns
-    pub not-over-both : is_over (both head other) ≡ false → head.columns + other.columns ≤ most_columns
-    unfolding is_over
-    not-over-both e = ltb-false most_columns (head.columns + other.columns) e
-
     pub few-not-over-both : head.columns + other.columns ≤ most_columns → is_over (both head other) ≡ false
     unfolding is_over
     few-not-over-both l = le-ltb most_columns (head.columns + other.columns) l

@@ -37,29 +37,10 @@ sum_fits z f = subst (λ (x : ℤ). SFits w64 (x +ℤ pos 32)) (sym (read64 z f)
 pub summed : (z : ℤ) → SFits w32 z → to_z w64 (of_z w64 (to_z w64 (of_z w64 (to_z w32 (of_z w32 z))) +ℤ pos 32)) ≡ z +ℤ pos 32
 summed z f = to_z-of_z w64 _ (sum_fits z f) ∙ ap (λ (x : ℤ). x +ℤ pos 32) (read64 z f)
 
-pub below-zero : (w : ℤ) → lt_z w (pos 0) ≡ true → 0 ≡ natural w
-below-zero (pos n) e = omega (arith, ltb-true n 0 e)
-below-zero (negsuc n) e = refl
-
-pub cast_unsigned : (w : ℤ) → SFits w64 w → lt_z w (pos 0) ≡ false → T (non_neg w) × Fits w64 (nat_abs w)
-cast_unsigned (pos n) f e = (tt, record { fits = omega (arith, f.sfits) })
-cast_unsigned (negsuc n) f e = let z : ◌≡◌ {A = ℕ} 0 1 = cc in absurd (omega arith)
-
-pub not-below : (w : ℤ) → lt_z w (pos 0) ≡ false → nat_abs w ≡ natural w
-not-below (pos n) e = refl
-not-below (negsuc n) e = let z : ◌≡◌ {A = ℕ} 0 1 = cc in omega arith
-
 -- a small height as an i32
 pub minus32-fits : (h : ℕ) → h < 65536 → SFits w32 (to_z w32 h -ℤ pos 32)
 minus32-fits h p = subst (λ (x : ℤ). SFits w32 (x -ℤ pos 32)) (sym (to_z_pos w32 h (omega arith))) (record { sfits = omega (arith, mag-sub h 32) })
 
-pub minus32 : (h : ℕ) → h < 65536 → to_z w32 (of_z w32 (to_z w32 h -ℤ pos 32)) ≡ height_of h
-minus32 h p = to_z-of_z w32 _ (minus32-fits h p) ∙ ap (λ (x : ℤ). x -ℤ pos 32) (to_z_pos w32 h (omega arith))
-
 -- the datum height of an i32, as it is read back from its bits
 pub datum-back : (z : ℤ) → SFits w32 z → datum (to_z w32 (of_z w32 z)) ≡ datum z
 datum-back z f = ap datum (to_z-of_z w32 z f)
-
-pub datum-fits : (z : ℤ) → SFits w32 z → datum z < 4_294_967_296
-datum-fits (pos n) f = omega (arith, f.sfits)
-datum-fits (negsuc n) f = omega arith

@@ -5,12 +5,10 @@ use Rattle.lists.specs.Checks.{Check}
 use Rattle.paper.specs.Limits.{most_columns}
 use Rattle.paper.specs.Layer.{Column}
 use Rattle.paper.specs.Table.{cells, limit}
-use Rattle.plate.specs.Refusal.{Told, done, refusal, Numbered, check}
+use Rattle.plate.specs.Refusal.{Numbered, check}
 use Rattle.plate.specs.Settings.{settings_checks, settings_of, Sound}
 use Rattle.plate.specs.declared.settings.Settings.{Settings}
 use Rattle.plate.specs.declared.head.Head.{Head}
-use Rattle.plate.specs.declared.head.Tabled.{Tabled}
-use Rattle.plate.specs.declared.head.Tabled.TheVariants.{Done, Refused}
 
 -- a table at the front of a buffer, and what goes with it
 pub record Held : Type 0 where
@@ -19,11 +17,6 @@ pub record Held : Type 0 where
 
 abbrev pub held_in : Head → List ℕ → Held
 held_in head buffer = record { head = head; buffer = buffer }
-
--- what a call on a table tells: what goes with the table then, or a refusal
-abbrev pub told_table : Tabled → Told Head
-told_table (Done head) = done head
-told_table (Refused r) = refusal r
 
 -- ---- arithmetic
 

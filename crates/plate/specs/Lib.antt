@@ -1,5 +1,4 @@
 pub mod Refusal
-pub mod Checked
 pub mod Call
 pub mod Settings
 pub mod Head

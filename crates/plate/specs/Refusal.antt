@@ -1,12 +1,10 @@
 -- Document 01, 'What comes back': the number of each reason, and what an answer tells in the document's numbers. Assumes nothing.
-use Rattle.std.specs.Prelude.{ℕ, Bool, List}
+use Rattle.std.specs.Prelude.{ℕ, Bool, List, Result, Ok, Err}
 use Rattle.std.proofs.Math.Option.{Option, none, some}
 use Rattle.lists.specs.Checks.{Check, first}
 use Rattle.plate.specs.declared.refusal.Reason.{Reason}
 use Rattle.plate.specs.declared.refusal.Reason.TheVariants as reason
 use Rattle.plate.specs.declared.refusal.Refusal.{Refusal}
-use Rattle.plate.specs.declared.refusal.Answer.{Answer}
-use Rattle.plate.specs.declared.refusal.Answer.TheVariants.{Done, Refused}
 
 abbrev pub number_of : Reason → ℕ
 number_of reason.Height = 1
@@ -39,9 +37,9 @@ pub data Told (X : Type 0) : Type 0 where
 abbrev pub refusal : {X : Type 0} → Refusal → Told X
 refusal r = refused (number_of r.reason) r.place
 
-abbrev pub told : Answer → Told ℕ
-told (Done x) = done x
-told (Refused r) = refusal r
+abbrev pub told : {X : Type 0} → Result X Refusal → Told X
+told (Ok x) = done x
+told (Err r) = refusal r
 
 -- a number of the document's table, and its place
 pub record Numbered : Type 0 where
@@ -50,6 +48,11 @@ pub record Numbered : Type 0 where
 
 abbrev pub numbered : Refusal → Numbered
 numbered r = record { number = number_of r.reason; place = r.place }
+
+-- what a function that asks some checks of a call found: nothing, or the refusal of the first that holds
+abbrev pub said_by : {X : Type 0} → Result X Refusal → Option Numbered
+said_by (Ok x) = none
+said_by (Err r) = some (numbered r)
 
 -- the refusal of this number and place, when it is given
 abbrev pub check : ℕ → Bool → ℕ → Check Numbered

@@ -1,16 +1,14 @@
 -- The settings as the calls make them from a height and a thickness set: refusals 1 and 2, or the sizes that follow. Assumes nothing.
-use Rattle.std.specs.Prelude.{ℕ, ◌+◌, ◌-◌, ◌*◌, ◌≤◌, ◌≡◌, Bool, ◌||◌, List, [], ◌∷◌, ltb, eqb}
-use Rattle.std.proofs.Math.Option.{Option, none, some}
+use Rattle.std.specs.Prelude.{ℕ, ◌+◌, ◌-◌, ◌*◌, ◌≤◌, ◌≡◌, Bool, ◌||◌, List, [], ◌∷◌, ltb, eqb, Result, Ok}
 use Rattle.lists.specs.Checks.{Check, first}
 use Rattle.paper.specs.Limits.{least_height, greatest_height, most_thickness}
 use Rattle.paper.specs.Layer.{tmin, tmax}
 use Rattle.paper.specs.Table.{rows, cells}
 use Rattle.paper.specs.Sequence.{M}
 use Rattle.paper.specs.Sheets.{entries}
-use Rattle.plate.specs.Refusal.{Told, done, refusal, Numbered, numbered, check}
+use Rattle.plate.specs.Refusal.{Numbered, check, said_by}
 use Rattle.plate.specs.declared.settings.Settings.{Settings}
-use Rattle.plate.specs.declared.settings.Made.{Made}
-use Rattle.plate.specs.declared.settings.Made.TheVariants.{Good, Bad}
+use Rattle.plate.specs.declared.refusal.Refusal.{Refusal}
 
 -- x is not from lo to hi
 abbrev pub outside : ℕ → ℕ → ℕ → Bool
@@ -31,10 +29,6 @@ settings_of N T = record {
   counts = M N T;
   entries = entries N T;
 }
-
-abbrev pub told_made : Made → Told Settings
-told_made (Good s) = done s
-told_made (Bad r) = refusal r
 
 -- the most cells of a table, counts of a plan and entries of a sheet that settings can have
 abbrev pub most_cells : ℕ
@@ -63,13 +57,8 @@ pub record Sound (s : Settings) : Type 0 where
   pub entries-are : s.entries ≡ (s.rows + 1) * (s.counts + 1)
   pub few-entries : s.entries ≤ most_entries
 
--- what a function that asks some checks says of them
-abbrev pub said_made : Made → Option Numbered
-said_made (Good s) = none
-said_made (Bad r) = some (numbered r)
-
 -- THE PROMISE of every function that asks the checks of a call: what the first of them that holds says, or, where none does, the settings
 -- of N and T
-pub record Judges (made : Made) (checks : List (Check Numbered)) (N T : ℕ) : Type 0 where
-  pub says : said_made made ≡ first checks
-  pub good : (s : Settings) → made ≡ Good s → (s ≡ settings_of N T) × Sound s
+pub record Judges (made : Result Settings Refusal) (checks : List (Check Numbered)) (N T : ℕ) : Type 0 where
+  pub says : said_by made ≡ first checks
+  pub good : (s : Settings) → made ≡ Ok s → (s ≡ settings_of N T) × Sound s

@@ -3,21 +3,12 @@
 ghost use Rattle.std.specs.Prelude.{◌≡◌, cond};
 ghost use Rattle.plate.specs.Head.{cleared_head, with_columns, more, both, less, capped, is_over, is_full, is_less};
 
-use crate::refusal::Refusal;
-
 #[repr(C)]
 #[derive(Clone, Copy)]
 pub struct Head {
     pub height: u32,
     pub members: u32,
     pub columns: u32,
-}
-
-// What a call on a table answers: what goes with the table then, or a refusal.
-#[derive(Clone, Copy)]
-pub enum Tabled {
-    Done(Head),
-    Refused(Refusal),
 }
 
 impl Head {
@@ -38,14 +29,11 @@ impl Head {
     fn with_columns(self, columns: u32) -> Head
         ensures { result ≡ with_columns self columns }
     {
-        Head {
-            height: self.height,
-            members: self.members,
-            columns,
-        }
+        Head { columns, ..self }
     }
 
     // Whether there are more columns than a table can have.
+    #[tactic(auto, unfolding(crate::specs::Head::is_over))]
     pub fn is_over(self) -> bool
         ensures { result ≡ is_over self }
     {
@@ -53,6 +41,7 @@ impl Head {
     }
 
     // Whether there is no room for one column more.
+    #[tactic(auto, unfolding(crate::specs::Head::is_full))]
     pub fn is_full(self) -> bool
         ensures { result ≡ is_full self }
     {
@@ -60,13 +49,15 @@ impl Head {
     }
 
     // Whether two tables together have more columns than one can have.
+    #[tactic(auto, unfolding(crate::specs::Head::is_over))]
     pub fn is_over_with(self, other: Head) -> bool
         ensures { result ≡ is_over (both self other) }
     {
-        (Head::MOST_COLUMNS as u64) < self.columns as u64 + other.columns as u64
+        u64::from(Head::MOST_COLUMNS) < u64::from(self.columns) + u64::from(other.columns)
     }
 
     // Whether there are fewer columns than another table has.
+    #[tactic(auto, unfolding(crate::specs::Head::is_less))]
     pub fn is_less(self, other: Head) -> bool
         ensures { result ≡ is_less self other }
     {
@@ -74,6 +65,7 @@ impl Head {
     }
 
     // One column more; the same where there is no room for it.
+    #[tactic(auto, unfolding(crate::specs::Head::is_full))]
     pub fn with_column(self) -> Head
         ensures { result ≡ cond (is_full self) self (more self) }
     {
@@ -84,6 +76,7 @@ impl Head {
     }
 
     // The columns of two tables; those of the first alone where both are too many.
+    #[tactic(auto, unfolding(crate::specs::Head::is_over))]
     pub fn joined_with(self, other: Head) -> Head
         ensures { result ≡ cond (is_over (both self other)) self (both self other) }
     {
@@ -97,19 +90,13 @@ impl Head {
     pub fn without(self, other: Head) -> Head
         ensures { result ≡ less self other }
     {
-        if self.columns < other.columns {
-            return self.with_columns(0);
-        }
-        self.with_columns(self.columns - other.columns)
+        self.with_columns(self.columns.saturating_sub(other.columns))
     }
 
     // No more columns than a table can have.
     pub fn capped(self) -> Head
         ensures { result ≡ capped self }
     {
-        if Head::MOST_COLUMNS < self.columns {
-            return self.with_columns(Head::MOST_COLUMNS);
-        }
-        self
+        self.with_columns(self.columns.min(Head::MOST_COLUMNS))
     }
 }

@@ -6,16 +6,12 @@ ghost use Rattle.plate.specs.Datum.{datum, height_of};
 pub fn datum_of(z: i32) -> usize
     ensures { result ≡ datum z }
 {
-    let above = z as i64 + 32;
-    if above < 0 {
-        return 0;
-    }
-    above as usize
+    (i64::from(z) + 32).max(0) as usize
 }
 
 // The whole number that the datum height h stands for.
 pub fn height_of(h: u16) -> i32
     ensures { result ≡ height_of h }
 {
-    h as i32 - 32
+    i32::from(h) - 32
 }

@@ -64,20 +64,6 @@ pub struct Refusal {
     pub place: u64,
 }
 
-// The answer of a call that returns one number: done with it, or refused.
-#[derive(Clone, Copy)]
-pub enum Answer {
-    Done(u64),
-    Refused(Refusal),
-}
-
-// What some checks of a call find: that all pass, or the refusal of the first that does not.
-#[derive(Clone, Copy)]
-pub enum Checked {
-    Passed,
-    Refused(Refusal),
-}
-
 // The refusal for a reason at a place.
 pub fn refusal_at(reason: Reason, place: usize) -> Refusal
     ensures { result ≡ record { reason = reason; place = place } }

@@ -20,36 +20,25 @@ pub struct Settings {
     pub entries: usize,
 }
 
-// What a function that asks some checks of a call finds: the settings, where all pass, or the refusal of the first that does not.
-#[derive(Clone, Copy)]
-pub enum Made {
-    Good(Settings),
-    Bad(Refusal),
-}
-
 // Whether the thickness t is in the set.
+#[tactic(auto, unfolding(paper::specs::Layer::allowed))]
 pub fn is_allowed(members: u32, t: usize) -> bool
     ensures { result ≡ allowed members t }
 {
-    if t < 1 {
-        return false;
+    match t {
+        1..=32 => (members >> (t - 1)) % 2 == 1,
+        _ => false,
     }
-    if 32 < t {
-        return false;
-    }
-    (members >> (t - 1)) % 2 == 1
 }
 
 // The least member of the set, and 0 where it has none.
 pub fn least_of(members: u32) -> usize
     ensures { result ≡ tmin members }
 {
-    let mut k: usize = 0;
-    while k < 32 {
-        if is_allowed(members, k + 1) {
-            return k + 1;
+    for t in 1..33 {
+        if is_allowed(members, t) {
+            return t;
         }
-        k += 1;
     }
     0
 }
@@ -58,12 +47,10 @@ pub fn least_of(members: u32) -> usize
 pub fn greatest_of(members: u32) -> usize
     ensures { result ≡ tmax members }
 {
-    let mut k: usize = 32;
-    while 0 < k {
-        if is_allowed(members, k) {
-            return k;
+    for t in (1..33).rev() {
+        if is_allowed(members, t) {
+            return t;
         }
-        k -= 1;
     }
     0
 }
@@ -86,24 +73,24 @@ impl Settings {
     pub const GREATEST_HEIGHT: u32 = 512;
 
     // Refusals 1 and 2, or the settings.
-    pub fn new(height: u32, members: u32) -> Made
+    pub fn new(height: u32, members: u32) -> Result<Settings, Refusal>
         ensures { Judges result (settings_checks height members) height members }
     {
         if height < Settings::LEAST_HEIGHT {
-            return Made::Bad(refusal_at(Reason::Height, 0));
+            return Err(refusal_at(Reason::Height, 0));
         }
         if Settings::GREATEST_HEIGHT < height {
-            return Made::Bad(refusal_at(Reason::Height, 0));
+            return Err(refusal_at(Reason::Height, 0));
         }
         if members == 0 {
-            return Made::Bad(refusal_at(Reason::NoThickness, 0));
+            return Err(refusal_at(Reason::NoThickness, 0));
         }
         let n = height as usize;
         let least = least_of(members);
         let greatest = greatest_of(members);
         let rows = n + 2 * greatest - 2;
         let counts = greatest_count(n, members, least);
-        Made::Good(Settings {
+        Ok(Settings {
             height: n,
             members,
             tmin: least,
