@@ -1,12 +1,14 @@
 -- One more boundary counted, one more voxel counted: the steps of the loops. Assumes nothing.
 use mathlib.Core.Path.{◌≡◌, refl}
+use mathlib.Core.Bool.{Bool, true, false, cond}
 use mathlib.Core.List.{List}
 use Prim.Native.Nat.{ℕ, zero, suc, ◌+◌, ◌%◌, ◌≤◌, ◌<◌}
 use borrow.Author.Tests.{le-leb, lt-leb}
 use native.Mathlib.Numerals.{add-one}
 use native.Mathlib.Omega.{arith}
-use lib.ListN.{length, get_or, drop, drop_of_length-le}
-use lib.Seq.{drop-cons}
+use lib.Dec.{leb}
+use Rattle.std.specs.Prelude.{count_by}
+use Rattle.std.proofs.lemmas.List.Recursion.{is_count_by}
 use Rattle.column.specs.Inside.{reached_by, passed, inside}
 
 pub reached-yes : (b h : ℕ) → b + 32 ≤ h → (1 ≡ reached_by b h) × (◌≤◌ 1 1)
@@ -17,14 +19,6 @@ pub reached-no : (b h : ℕ) → h < b + 32 → (0 ≡ reached_by b h) × (◌�
 unfolding reached_by
 reached-no b h l = (simp lt-leb, omega arith)
 
-pub passed-more : (bs : List ℕ) (h i : ℕ) → i < length bs → passed (drop i bs) h ≡ reached_by (get_or bs i 0) h + passed (drop (i + 1) bs) h
-unfolding passed
-passed-more bs h i l = rw (add-one, drop-cons bs i 0)
-
-pub passed-end : (bs : List ℕ) (h i : ℕ) → length bs ≤ i → passed (drop i bs) h ≡ 0
-unfolding passed
-passed-end bs h i l = rw (drop_of_length-le bs l)
-
 pub inside-none : (bs : List ℕ) (h : ℕ) → inside bs h 0 ≡ 0
 unfolding inside
 inside-none bs h = refl
@@ -33,10 +27,16 @@ pub inside-more : (bs : List ℕ) (h k : ℕ) → inside bs h (k + 1) ≡ inside
 unfolding inside
 inside-more bs h k = rw add-one
 
-pub inside-end : (bs : List ℕ) (h k t : ℕ) → k ≤ t → t ≤ k → inside bs h k ≡ inside bs h t
-inside-end bs h k t l u = let e : k ≡ t = omega arith in rw e
-
 pub inside-le : (bs : List ℕ) (h t : ℕ) → inside bs h t ≤ t
 unfolding inside
 inside-le bs h zero = omega arith
 inside-le bs h (suc t) = omega (arith, inside-le bs h t)
+
+-- how many boundaries are at or below a voxel, as the list's word for it counts them
+pub passed_counted : (bs : List ℕ) (h : ℕ) → passed bs h ≡ count_by (λ b. leb (b + 32) h) bs
+unfolding passed reached_by
+passed_counted bs h = is_count_by (λ bs. passed bs h) (λ b. leb (b + 32) h) refl (λ b bs. step (leb (b + 32) h) (passed bs h)) bs
+  where
+    step : (reached : Bool) (n : ℕ) → cond reached 1 0 + n ≡ cond reached (1 + n) n
+    step true n = refl
+    step false n = omega arith

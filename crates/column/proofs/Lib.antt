@@ -4,4 +4,3 @@ pub mod Inside
 pub mod Shares
 pub mod Between
 pub mod Starts
-pub mod Signed

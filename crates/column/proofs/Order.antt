@@ -1,27 +1,13 @@
 -- The order of a column: what each test of the code says of `misplaced`. Where each boundary is above the one before, the last is the highest, so
 -- that none is misplaced where the last is not above N. Assumes nothing.
 use mathlib.Core.Path.{◌≡◌, ap}
-use mathlib.Core.Bool.{true, false}
+use mathlib.Core.Bool.{false}
 use mathlib.Core.List.{List}
 use Prim.Native.Nat.{ℕ, zero, suc, ◌+◌, ◌-◌, ◌≤◌, ◌<◌}
 use native.Mathlib.Omega.{arith}
-use borrow.Author.Tests.{lt-ltb, le-ltb, lt-leb, eq-eqb, ne_eqb}
-use lib.Dec.{leb}
+use borrow.Author.Tests.{le-ltb, lt-leb, ne_eqb}
 use lib.ListN.{length, get_or}
 use Rattle.column.specs.Order.{misplaced}
-
-module _ (N : ℕ) (bs : List ℕ) (i : ℕ) where
-  pub misplaced-high : N < get_or bs i 0 → true ≡ misplaced N bs i
-  unfolding misplaced
-  misplaced-high l = simp lt-ltb
-
-  pub misplaced-first : get_or bs i 0 ≤ N → i ≡ 0 → false ≡ misplaced N bs i
-  unfolding misplaced
-  misplaced-first l e = simp (le-ltb, eq-eqb)
-
-  pub misplaced-next : get_or bs i 0 ≤ N → (i ≡ 0 → ⊥) → leb (get_or bs i 0) (get_or bs (i - 1) 0) ≡ misplaced N bs i
-  unfolding misplaced
-  misplaced-next l e = simp (le-ltb, ne_eqb)
 
 module _ (bs : List ℕ) where
   -- among the first n, each is above the one before

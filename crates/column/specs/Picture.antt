@@ -3,12 +3,10 @@ use Rattle.std.specs.Prelude.{ℕ, ◌+◌, ◌-◌, Bool, not, ◌||◌, List, 
 use Rattle.std.specs.Int.Signed.{lt_z}
 use Rattle.lists.specs.Checks.{Check}
 use Rattle.paper.specs.Layer.{allowed, tmax, share, filled, difference}
-use Rattle.plate.specs.Refusal.{Told, done, refusal, Numbered, check, decided}
+use Rattle.plate.specs.Refusal.{Told, Numbered, check, decided}
 use Rattle.plate.specs.Settings.{settings_checks}
 use Rattle.column.specs.Order.{column_checks}
 use Rattle.column.specs.declared.Judged.{Judged}
-use Rattle.column.specs.declared.Pictured.{Pictured}
-use Rattle.column.specs.declared.Pictured.TheVariants.{Done, Refused}
 
 -- z is not a start of the table, -(tmax - 1) to N + tmax - 2
 unfoldable pub start_outside : ℕ → ℕ → ℤ → Bool
@@ -24,10 +22,6 @@ picture_checks N T bs z t = settings_checks N T ++ (column_checks N bs ++ layer_
 -- filled or not, the share, and the difference
 abbrev pub judgement : List ℕ → ℤ → ℕ → Judged
 judgement bs z t = record { filled = filled bs z t; share = share bs z t; difference = difference bs z t }
-
-abbrev pub told_picture : Pictured → Told Judged
-told_picture (Done j) = done j
-told_picture (Refused r) = refusal r
 
 -- THE ANSWER
 unfoldable pub picture_answer : ℕ → ℕ → List ℕ → ℤ → ℕ → Told Judged

@@ -1,9 +1,9 @@
 -- Motor heights over whole numbers. In range the product z·s is below 2 ^ 24, so that the f32 nearest to its eighth is its eighth, by the
 -- law of `Exact` at 2 ^ 3: document 01's height, and the only one. What a call tells says what it returned. Assumes nothing.
 use mathlib.Core.Path.{◌≡◌, refl, sym, ap, ◌∙◌, subst}
-use mathlib.Core.Bool.{true, false, ◌||◌}
+use mathlib.Core.Bool.{true, false}
 use mathlib.Core.List.{[], ◌∷◌}
-use mathlib.Core.Option.{none, some}
+use mathlib.Core.Option.{none}
 use Prim.Native.Nat.{ℕ, zero, suc, ◌*◌, ◌^◌, ◌≤◌, ◌<◌}
 use native.Mathlib.Nat.{mul-le-mul}
 use native.Mathlib.Omega.{arith}
@@ -16,15 +16,14 @@ use lib.Ieee.Fits.{round-fits}
 use Rattle.lists.specs.Checks.{first}
 use Rattle.lists.proofs.Checks.{first-none, or-false}
 use Rattle.paper.specs.Motor.{negative, Times, MotorHeight}
-use Rattle.plate.specs.Refusal.{done, refusal, numbered, check}
+use Rattle.plate.specs.Refusal.{done, told}
 use Rattle.plate.specs.declared.refusal.Refusal.{Refusal}
-use Rattle.plate.proofs.Decided.{told-done, decided-said}
+use Rattle.plate.proofs.Decided.{told-done}
 use Rattle.plate.proofs.Numbers.{number-only}
 use Rattle.motor.specs.Exact.{over}
-use Rattle.motor.specs.Height.{step_check, height_checks, height_answer, told_lifted}
-use Rattle.motor.specs.declared.Lifted.{Lifted}
-use Rattle.motor.specs.declared.Lifted.TheVariants.{Done, Refused}
+use Rattle.motor.specs.Height.{step_check, height_checks, height_answer}
 use Rattle.motor.proofs.Exact.{over-exact, value-only}
+use Rattle.std.specs.Prelude.{Result, Ok, Err}
 
 -- ---- the product
 size-of-negated : (n : ℕ) → nat_abs (neg_ℤ (pos n)) ≡ n
@@ -44,11 +43,6 @@ pub step_in : (s : ℕ) → none ≡ first (step_check s ∷ []) → (1 ≤ s) �
 step_in s e =
     let q = or-false (ltb s 1) (ltb 8192 s) ((first-none (step_check s ∷ [])).0 (sym e)).0 in
     (ltb-false s 1 q.0, ltb-false 8192 s q.1)
-
--- and one that doesn't
-pub step-out : (s : ℕ) (z : ℤ) (r : Refusal) → some (numbered r) ≡ first (step_check s ∷ []) → refusal r ≡ height_answer s z
-step-out s z r e =
-    decided-said (step_check s ∷ []) (check 15 (lt_z z (negsuc 30) || lt_z (pos 543) z) 0 ∷ []) (over (z *ℤ pos s) 8) r.reason r.place e
 
 -- ---- in range the product is small, and a height is answered
 module _ (s : ℕ) (z : ℤ) (some : 1 ≤ s) (few : s ≤ 8192) (low : lt_z z (negsuc 30) ≡ false) (high : lt_z (pos 543) z ≡ false) where
@@ -96,13 +90,3 @@ height-zero s low few =
 pub p13 : (x : Float) × MotorHeight 15 (negsuc 0) x × Times 1000 x (negsuc 1874)
 unfolding fits
 p13 = (fin true 15 (negsuc 2), record { single = tt; eightfold = (refl, refl) }, (refl, refl))
-
--- what is told says what was returned
-pub told-lifted-only : (a b : Lifted) → told_lifted a ≡ told_lifted b → a ≡ b
-told-lifted-only (Done x) (Done y) e = ap Done (cc)
-told-lifted-only (Done x) (Refused r) e = let n : ◌≡◌ {A = ℕ} 0 1 = cc in absurd (omega arith)
-told-lifted-only (Refused q) (Done y) e = let n : ◌≡◌ {A = ℕ} 0 1 = cc in absurd (omega arith)
-told-lifted-only (Refused q) (Refused r) e =
-    let reason = number-only q.reason r.reason (cc) in
-    let place : q.place ≡ r.place = cc in
-    λ i. Refused (record { reason = reason i; place = place i })
