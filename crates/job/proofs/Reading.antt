@@ -15,7 +15,10 @@ use Rattle.record.specs.Places.{At}
 use Rattle.record.proofs.Frames.{frame_at}
 use Rattle.record.proofs.Places.{at_place}
 use Rattle.job.specs.Kinds.{allowed_here, fits}
-use Rattle.job.specs.Record.{body_checks, kind_checks, record_kind, record_checks, Reading, reading_of, again, moved, read_record, read_body}
+use Rattle.job.specs.Record.{body_checks, kind_checks, record_kind, record_checks, Reading, reading_of, again, moved, read_record, read_body, told_or}
+use Rattle.std.specs.Prelude.{Result, IsErrAnd}
+use Rattle.plate.proofs.Calls.{handed-is}
+use Rattle.job.specs.declared.Step.{Step}
 use Rattle.job.specs.declared.State.{State}
 use Rattle.job.specs.declared.Kind.{Kind}
 
@@ -25,6 +28,10 @@ says_at : (st : State) (at : ℕ) (cs : List (Check Numbered)) (x : Reading) →
 says_at st at cs x a r e =
     ap (λ (p : ℕ). moved st at (refused (number_of r.reason) p)) (sym (at_place at cs (numbered r) a (sym e)))
     ∙ ap (λ (o : Option Numbered). moved st at (told_by o x)) e
+
+-- a refusal that a `?` hands on
+pub handed : (st : State) (at : ℕ) (result : Result Step Refusal) (r : Refusal) → IsErrAnd result (λ e. e ≡ r) → told_or st at result ≡ moved st at (refused (number_of r.reason) at)
+handed st at result r h = ap (told_or st at) (handed-is result r h)
 
 module _ (s : List ℕ) (st : State) (at : ℕ) where
   -- after the end record

@@ -1,8 +1,9 @@
 -- Document 01, 'Job file': what reading one record finds, by the reading state handed in. Its checks are one list in the document's order, and
 -- each place is the record's first byte. Assumes nothing.
-use Rattle.std.specs.Prelude.{ℕ, ◌+◌, ◌/◌, cond, List, [], ◌∷◌, ◌++◌}
+use Rattle.std.specs.Prelude.{ℕ, ◌+◌, ◌/◌, cond, List, [], ◌∷◌, ◌++◌, Result, Ok, Err}
 use Rattle.lists.specs.Checks.{Check}
 use Rattle.plate.specs.Refusal.{Told, done, refused, number_of, Numbered, check, decided}
+use Rattle.plate.specs.declared.refusal.Refusal.{Refusal}
 use Rattle.plate.specs.Settings.{settings_checks}
 use Rattle.plate.specs.Head.{is_full}
 use Rattle.column.specs.Order.{column_checks}
@@ -134,3 +135,8 @@ told_read (read.Fault reason place) = refused (number_of reason) place
 
 abbrev pub told_step : Step → Moved
 told_step step = record { told = told_read step.read; next = step.cursor.at; state = step.state }
+
+-- or the refusal of one of its checks: its number is told, and the record's first byte, whatever place it had where it was found
+abbrev pub told_or : State → ℕ → Result Step Refusal → Moved
+told_or st at (Ok step) = told_step step
+told_or st at (Err r) = moved st at (refused (number_of r.reason) at)

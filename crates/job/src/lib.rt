@@ -4,8 +4,7 @@
 ghost use Rattle.std.specs.Prelude.{◌≡◌, false, [], ◌∷◌, ◌≤◌, length};
 ghost use Rattle.lists.specs.Checks.{first};
 ghost use Rattle.paper.specs.Limits.{most_boundaries};
-ghost use Rattle.plate.specs.Refusal.{number_of, refused, decided};
-ghost use Rattle.plate.specs.Checked.{said_by};
+ghost use Rattle.plate.specs.Refusal.{number_of, refused, decided, said_by};
 ghost use Rattle.plate.specs.Head.{is_full};
 ghost use Rattle.column.specs.Order.{column_checks};
 ghost use Rattle.record.specs.Bytes.{words};
@@ -13,12 +12,12 @@ ghost use Rattle.record.specs.Frame.{past_at};
 ghost use Rattle.record.specs.Faults.{tail};
 ghost use Rattle.job.specs.State.{start_state, begin as State·begin, counted as State·counted, finish as State·finish};
 ghost use Rattle.job.specs.Kinds.{kind_of, allowed_here, fits as Kind·fits};
-ghost use Rattle.job.specs.Record.{Ready, moved, again, read_body, read_record, told_read, told_step};
+ghost use Rattle.job.specs.Record.{Ready, moved, again, read_body, read_record, told_read, told_step, told_or};
 
-use column::{Column, check_column};
+use column::{MOST_BOUNDARIES, check_column};
 use plate::head::Head;
-use plate::refusal::{Checked, Reason};
-use plate::settings::{Made, Settings};
+use plate::refusal::{Reason, Refusal, refusal_at};
+use plate::settings::Settings;
 use record::{Fault, check_frame, check_tail, kind_at, length_at, quad, read_words, word};
 
 // What a settings record asks for.
@@ -29,7 +28,8 @@ pub struct Asked {
     pub bound: u32,
 }
 
-// What has been read so far: whether settings were, whether the end was, what goes with the table of these columns, and the bound.
+// What has been read so far: whether settings were, whether the end was, what goes with the table of these columns, and the bound. The two flags stay:
+// a caller hands in any state, such as an ended one that never began, and `Cursor::read` promises its answer on each (trial_records gives them).
 #[derive(Clone, Copy)]
 pub struct State {
     pub begun: bool,
@@ -82,7 +82,7 @@ impl State {
 }
 
 // The kinds of records.
-#[derive(Clone, Copy)]
+#[derive(Clone, Copy, Debug, PartialEq, Eq)]
 pub enum Kind {
     Settings,
     Column,
@@ -92,6 +92,8 @@ pub enum Kind {
 }
 
 impl Kind {
+    // The numbers stand as constants: a remark has many numbers and a refused kind has no one number, so that a method that gives a kind's number
+    // would not be total.
     pub const SETTINGS: u16 = 1;
 
     pub const COLUMN: u16 = 2;
@@ -99,19 +101,6 @@ impl Kind {
     pub const END: u16 = 3;
 
     pub const FIRST_REMARK: u16 = 32768;
-
-    // The kind of a number; other numbers are refused.
-    fn of(number: u16) -> Kind
-        ensures { result ≡ kind_of number }
-    {
-        match number {
-            Kind::SETTINGS => Kind::Settings,
-            Kind::COLUMN => Kind::Column,
-            Kind::END => Kind::End,
-            Kind::FIRST_REMARK..=65535 => Kind::Remark,
-            _ => Kind::Refused,
-        }
-    }
 
     // Whether a record of this kind may come now, by the kinds before it.
     fn is_allowed(self, state: State) -> bool
@@ -140,7 +129,25 @@ impl Kind {
     }
 }
 
-// What a record is. A column is `count` boundaries of two bytes each, from `start` on.
+// The kind of a number; other numbers are refused. The match is the form that document 01 gives this place ('Choosing the form by place').
+impl From<u16> for Kind {
+    ghost from_gives = { λ number kind. kind ≡ kind_of number };
+
+    fn from(number: u16) -> Kind
+        ensures { result ≡ kind_of number }
+    {
+        match number {
+            Kind::SETTINGS => Kind::Settings,
+            Kind::COLUMN => Kind::Column,
+            Kind::END => Kind::End,
+            Kind::FIRST_REMARK..=65535 => Kind::Remark,
+            _ => Kind::Refused,
+        }
+    }
+}
+
+// What a record is, in the form that document 01 gives this place: a fault holds a reason, with its place beside it. A column is `count` boundaries
+// of two bytes each, from `start` on.
 #[derive(Clone, Copy)]
 pub enum Read {
     Settings(Asked),
@@ -150,6 +157,7 @@ pub enum Read {
     Fault { reason: Reason, place: usize },
 }
 
+// Where the reading stands. It goes by value and comes back advanced, the form that document 01 gives this place.
 #[derive(Clone, Copy)]
 pub struct Cursor {
     pub at: usize,
@@ -198,119 +206,109 @@ impl Cursor {
         }
     }
 
-    fn settings(self, input: &[u8], state: State) -> Step
+    fn settings(self, input: &[u8], state: State) -> Result<Step, Refusal>
         requires { Ready input.now state self.at Kind.Settings }
-        ensures { told_step result ≡ read_body input.now state self.at Kind.Settings }
+        ensures { told_or state self.at result ≡ read_body input.now state self.at Kind.Settings }
     {
         let start = self.at + 4;
-        let height = word(input, start) as u32;
+        let height = u32::from(word(input, start));
         let members = quad(input, start + 2);
         let bound = quad(input, start + 6);
-        let made = Settings::new(height, members);
-        match made {
-            Made::Bad(refusal) => {
-                let reason = refusal.reason;
-                self.faulted(state, reason)
-            }
-            Made::Good(_) => {
-                let asked = Asked {
-                    height,
-                    members,
-                    bound,
-                };
-                self.passed(input, Read::Settings(asked), state.begin(asked))
-            }
-        }
+        Settings::new(height, members)?;
+        let asked = Asked {
+            height,
+            members,
+            bound,
+        };
+        Ok(self.passed(input, Read::Settings(asked), state.begin(asked)))
     }
 
-    fn column(self, input: &[u8], state: State) -> Step
+    fn column(self, input: &[u8], state: State) -> Result<Step, Refusal>
         requires { Ready input.now state self.at Kind.Column }
-        ensures { told_step result ≡ read_body input.now state self.at Kind.Column }
+        ensures { told_or state self.at result ≡ read_body input.now state self.at Kind.Column }
     {
         let at = self.at;
         let start = at + 4;
         let count = length_at(input, at) / 2;
         let head = state.head;
         if head.is_full() {
-            return self.faulted(state, Reason::Columns);
+            return Err(refusal_at(Reason::Columns, at));
         }
-        if Column::MOST_BOUNDARIES < count {
-            return self.faulted(state, Reason::BoundaryCount);
+        if MOST_BOUNDARIES < count {
+            return Err(refusal_at(Reason::BoundaryCount, at));
         }
-        let order = check_at(input, start, count, head.height as usize);
-        if let Checked::Refused(refusal) = order {
-            let reason = refusal.reason;
-            return self.faulted(state, reason);
-        }
-        self.passed(input, Read::Column { start, count }, state.counted())
+        check_at(input, start, count, head.height as usize)?;
+        Ok(self.passed(input, Read::Column { start, count }, state.counted()))
     }
 
-    fn ending(self, input: &[u8], state: State) -> Step
+    fn ending(self, input: &[u8], state: State) -> Result<Step, Refusal>
         requires { Ready input.now state self.at Kind.End }
-        ensures { told_step result ≡ read_body input.now state self.at Kind.End }
+        ensures { told_or state self.at result ≡ read_body input.now state self.at Kind.End }
     {
         let columns = quad(input, self.at + 4);
         let head = state.head;
         if columns != head.columns {
-            return self.faulted(state, Fault::DISAGREES);
+            return Err(Fault::Disagrees.at(self.at));
         }
-        self.passed(input, Read::End(columns), state.finish())
+        Ok(self.passed(input, Read::End(columns), state.finish()))
     }
 
     // A record whose frame was judged, by its kind.
-    fn by_kind(self, input: &[u8], state: State, kind: Kind) -> Step
+    fn by_kind(self, input: &[u8], state: State, kind: Kind) -> Result<Step, Refusal>
         requires { Ready input.now state self.at kind }
-        ensures { told_step result ≡ read_body input.now state self.at kind }
+        ensures { told_or state self.at result ≡ read_body input.now state self.at kind }
     {
         match kind {
             Kind::Settings => self.settings(input, state),
             Kind::Column => self.column(input, state),
             Kind::End => self.ending(input, state),
-            Kind::Remark => self.passed(input, Read::Remark, state),
-            Kind::Refused => self.faulted(state, Fault::KIND_HERE),
+            Kind::Remark => Ok(self.passed(input, Read::Remark, state)),
+            Kind::Refused => Err(Fault::KindHere.at(self.at)),
         }
     }
 
     // After the end record: the end again, where nothing is left.
-    fn past_end(self, input: &[u8], state: State) -> Step
-        ensures { told_step result ≡ moved state self.at (decided (tail input.now self.at ∷ []) (again state self.at)) }
+    fn past_end(self, input: &[u8], state: State) -> Result<Step, Refusal>
+        ensures { told_or state self.at result ≡ moved state self.at (decided (tail input.now self.at ∷ []) (again state self.at)) }
     {
-        let rest = check_tail(input, self.at);
-        if let Checked::Refused(refusal) = rest {
-            let reason = refusal.reason;
-            return self.faulted(state, reason);
-        }
+        check_tail(input, self.at)?;
         let head = state.head;
-        Step {
+        Ok(Step {
             read: Read::End(head.columns),
             cursor: self,
             state,
-        }
+        })
     }
 
-    // Reads one record, by the state handed in.
-    pub fn read(self, input: &[u8], state: State) -> Step
-        ensures { told_step result ≡ read_record input.now state self.at }
+    // One record, or the refusal of the first of its checks that holds. Only its reason is told: in a file the place is the record's first byte.
+    fn judged(self, input: &[u8], state: State) -> Result<Step, Refusal>
+        ensures { told_or state self.at result ≡ read_record input.now state self.at }
     {
         let ended = state.ended;
         if ended {
             return self.past_end(input, state);
         }
         let at = self.at;
-        let kind = Kind::of(kind_at(input, at));
+        let kind = Kind::from(kind_at(input, at));
         let allowed = kind.is_allowed(state);
         let right = kind.fits(length_at(input, at));
-        let frame = check_frame(input, at, allowed, right);
-        if let Checked::Refused(refusal) = frame {
-            let reason = refusal.reason;
-            return self.faulted(state, reason);
-        }
+        check_frame(input, at, allowed, right)?;
         self.by_kind(input, state, kind)
+    }
+
+    // Reads one record, by the state handed in.
+    pub fn read(self, input: &[u8], state: State) -> Step
+        ensures { told_step result ≡ read_record input.now state self.at }
+    {
+        match self.judged(input, state) {
+            Ok(step) => step,
+            Err(refusal) => self.faulted(state, refusal.reason),
+        }
     }
 }
 
 // The order of a column that stands in the input: its boundaries are put into `out`, which is as long as they are.
-fn check_decoded(input: &[u8], start: usize, out: &mut [u16], height: usize) -> Checked
+fn check_decoded(input: &[u8], start: usize, out: &mut [u16], height: usize) -> Result<(), Refusal>
     ensures { said_by result ≡ first (column_checks height (words input.now start (length out.old))) }
 {
     read_words(input, start, out);
@@ -318,10 +316,10 @@ fn check_decoded(input: &[u8], start: usize, out: &mut [u16], height: usize) -> 
 }
 
 // 4 and 5 of the column of `count` boundaries at `start`.
-fn check_at(input: &[u8], start: usize, count: usize, height: usize) -> Checked
+fn check_at(input: &[u8], start: usize, count: usize, height: usize) -> Result<(), Refusal>
     requires { count ≤ most_boundaries }
     ensures { said_by result ≡ first (column_checks height (words input.now start count)) }
 {
-    let mut bounds = [0u16; Column::MOST_BOUNDARIES];
+    let mut bounds = [0u16; MOST_BOUNDARIES];
     check_decoded(input, start, &mut bounds[..count], height)
 }

@@ -1,12 +1,13 @@
 -- Bytes past the end are 0, and a list of numbers is as long as was asked for. Assumes nothing.
-use mathlib.Core.Path.{◌≡◌, refl, ap, ◌∙◌}
+use mathlib.Core.Path.{◌≡◌, refl, ap, ap₂, ◌∙◌}
 use mathlib.Core.List.{List, [], ◌∷◌, ◌++◌}
 use Prim.Native.Nat.{ℕ, zero, suc, ◌+◌, ◌*◌, ◌≤◌, ◌<◌}
 use native.Mathlib.Nat.{not-suc-le-zero}
 use native.Mathlib.Omega.{arith}
 use native.Mathlib.Decide.{dec_lt}
-use lib.ListN.{length, get_or, length-append, get_or-append, get_or-eq_default}
-use lib.Seq.{get_or-append-add}
+use native.Mathlib.Numerals.{add-one}
+use lib.ListN.{length, get_or, set, take, length-append, get_or-append, get_or-eq_default}
+use lib.Seq.{get_or-append-add, take-suc-set}
 use Rattle.record.specs.Bytes.{Bytes, le16, le32, numbers, words, quads}
 
 -- where nothing is left, and where one byte is
@@ -59,3 +60,11 @@ quad_at s = number_at (le32 s) 4
 pub quad-small : (s : List ℕ) → Bytes s → (at : ℕ) → le32 s at < 4_294_967_296
 unfolding le32 le16
 quad-small s byte at = omega (arith, byte at, byte (at + 1), byte (at + 2), byte (at + 2 + 1))
+
+-- one number more of a list, and one word
+pub numbers_more : (read : ℕ → ℕ) (width start i n : ℕ) (out : List ℕ) → i < length out → take i out ≡ numbers read width start i → n ≡ read (start + width * i)
+    → take (i + 1) (set out i n) ≡ numbers read width start (i + 1)
+numbers_more read width start i n out l e v = rw (add-one i) (take-suc-set out i n l ∙ ap₂ (λ (xs : List ℕ) (x : ℕ). xs ++ (x ∷ [])) e v)
+
+pub word_more : (s out : List ℕ) (start i w : ℕ) → i < length out → take i out ≡ numbers (le16 s) 2 start i → w ≡ le16 s (start + 2 * i) → take (i + 1) (set out i w) ≡ numbers (le16 s) 2 start (i + 1)
+word_more s out start i w l e v = numbers_more (le16 s) 2 start i w out l e v

@@ -14,7 +14,7 @@ use Rattle.record.specs.Written.{bytes16, bytes32, spelled, bytes_of, quad_bytes
 
 -- ---- how many bytes, and that they are bytes
 
-length-spelled : (bytes : ℕ → List ℕ) (width : ℕ) → ((n : ℕ) → length (bytes n) ≡ width) → (ns : List ℕ) → length (spelled bytes ns) ≡ width * length ns
+pub length-spelled : {A : Type 0} (bytes : A → List ℕ) (width : ℕ) → ((n : A) → length (bytes n) ≡ width) → (ns : List A) → length (spelled bytes ns) ≡ width * length ns
 length-spelled bytes width long [] = omega arith
 length-spelled bytes width long (n ∷ ns) = omega (arith, length-append (bytes n) (spelled bytes ns), long n, length-spelled bytes width long ns)
 

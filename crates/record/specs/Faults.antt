@@ -5,26 +5,37 @@ use Rattle.std.specs.Prelude.{ℕ, ◌≤◌, ◌≡◌, Bool, true, not, List, 
 use Rattle.lists.specs.Checks.{Check}
 use Rattle.plate.specs.Refusal.{Numbered, check}
 use Rattle.record.specs.Frame.{left, length_at, body_at, past_at}
+use Rattle.record.specs.declared.Fault.{Fault}
+use Rattle.record.specs.declared.Fault.TheVariants as fault
+
+-- the number of each way
+abbrev pub fault_number : Fault → ℕ
+fault_number fault.Cut = 16
+fault_number fault.KindHere = 19
+fault_number fault.WrongLength = 20
+fault_number fault.BodyCut = 16
+fault_number fault.Disagrees = 21
+fault_number fault.Tail = 21
 
 -- fewer than 4 bytes left
 abbrev pub cut : List ℕ → ℕ → Check Numbered
-cut s at = check 16 (ltb (left s at) 4) at
+cut s at = check (fault_number fault.Cut) (ltb (left s at) 4) at
 
 -- kind not allowed here
 abbrev pub kind_here : Bool → ℕ → Check Numbered
-kind_here allowed at = check 19 (not allowed) at
+kind_here allowed at = check (fault_number fault.KindHere) (not allowed) at
 
 -- wrong length for the kind
 abbrev pub wrong_length : Bool → ℕ → Check Numbered
-wrong_length right at = check 20 (not right) at
+wrong_length right at = check (fault_number fault.WrongLength) (not right) at
 
 -- body past the input
 abbrev pub body_cut : List ℕ → ℕ → Check Numbered
-body_cut s at = check 16 (ltb (left s (body_at at)) (length_at s at)) at
+body_cut s at = check (fault_number fault.BodyCut) (ltb (left s (body_at at)) (length_at s at)) at
 
 -- contents that disagree with the file: by some test, or a number that the record gives and what the file has
 abbrev pub disagrees : Bool → ℕ → Check Numbered
-disagrees when at = check 21 when at
+disagrees when at = check (fault_number fault.Disagrees) when at
 
 abbrev pub unequal : ℕ → ℕ → ℕ → Check Numbered
 unequal given counted at = disagrees (not (eqb given counted)) at

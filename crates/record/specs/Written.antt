@@ -1,6 +1,6 @@
 -- Document 01, 'Job file', as it is written: 'a body length in two bytes, a kind in two bytes, the body; all little-endian'. Every byte is
 -- reduced to one, so that what is written is bytes whatever the numbers. Assumes nothing.
-use Rattle.std.specs.Prelude.{ℕ, ◌+◌, ◌/◌, ◌%◌, cond, List, [], ◌∷◌, ◌++◌, leb, length}
+use Rattle.std.specs.Prelude.{ℕ, ◌≡◌, refl, ◌+◌, ◌/◌, ◌%◌, cond, List, [], ◌∷◌, ◌++◌, leb, length}
 use Rattle.std.proofs.lemmas.List.Edits.{sets}
 
 -- a number in two bytes, the lower one first, and in four
@@ -10,8 +10,17 @@ bytes16 n = n % 256 ∷ n / 256 % 256 ∷ []
 unfoldable pub bytes32 : ℕ → List ℕ
 bytes32 n = bytes16 n ++ bytes16 (n / 65536)
 
+-- two bytes and four
+pub long16 : (n : ℕ) → length (bytes16 n) ≡ 2
+unfolding bytes16
+long16 n = refl
+
+pub long32 : (n : ℕ) → length (bytes32 n) ≡ 4
+unfolding bytes32 bytes16
+long32 n = refl
+
 -- numbers one after the other, each spelled in bytes
-abbrev pub spelled : (ℕ → List ℕ) → List ℕ → List ℕ
+abbrev pub spelled : {A : Type 0} → (A → List ℕ) → List A → List ℕ
 spelled bytes [] = []
 spelled bytes (n ∷ ns) = bytes n ++ spelled bytes ns
 

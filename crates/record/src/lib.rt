@@ -2,63 +2,148 @@
 // past the end of the input reads 0, so that there is a number at every place.
 #![tactic(auto)]
 
-ghost use Rattle.std.specs.Prelude.{◌≡◌, [], ◌∷◌, ◌+◌, ◌*◌, ◌≤◌, length};
+ghost use Rattle.std.specs.Prelude.{◌≡◌, ℕ, List, [], ◌∷◌, ◌+◌, ◌*◌, ◌≤◌, length};
 ghost use Rattle.std.proofs.lemmas.List.Edits.{sets};
 ghost use Rattle.lists.specs.Checks.{first};
-ghost use Rattle.plate.specs.Checked.{said_by};
+ghost use Rattle.plate.specs.Refusal.{number_of, numbered, said_by};
 ghost use Rattle.record.specs.Bytes.{le16, le32, words};
 ghost use Rattle.record.specs.Frame.{left, length_at, kind_at};
-ghost use Rattle.record.specs.Faults.{tail, frame_checks};
-ghost use Rattle.record.specs.Written.{bytes_of, laid_at};
+ghost use Rattle.record.specs.Faults.{fault_number, tail, frame_checks};
+ghost use Rattle.record.specs.Written.{bytes16, bytes32, long16, long32, spelled, bytes_of, laid_at};
 
-use plate::refusal::{Checked, Reason, refusal_at};
+use plate::refusal::{Reason, Refusal, refusal_at};
 
-// Why a file is refused, a reason for each of its checks: fewer than 4 bytes left, kind not allowed here, wrong length for the kind, body past
-// the input, contents that disagree with the file, bytes after the end. Document 02 f) gives them four numbers.
-#[derive(Clone, Copy)]
-pub struct Fault;
+// Why a file is refused, a case for each of its checks: fewer than 4 bytes left, kind not allowed here, wrong length for the kind, body past the
+// input, contents that disagree with the file, bytes after the end. Document 02 f) gives them four numbers.
+#[derive(Clone, Copy, Debug, PartialEq, Eq)]
+pub enum Fault {
+    Cut,
+    KindHere,
+    WrongLength,
+    BodyCut,
+    Disagrees,
+    Tail,
+}
 
 impl Fault {
-    pub const CUT: Reason = Reason::RanOut;
+    // The reason that is told.
+    pub fn reason(self) -> Reason
+        ensures { number_of result ≡ fault_number self }
+    {
+        match self {
+            Fault::Cut => Reason::RanOut,
+            Fault::KindHere => Reason::WrongKind,
+            Fault::WrongLength => Reason::WrongLength,
+            Fault::BodyCut => Reason::RanOut,
+            Fault::Disagrees => Reason::Disagrees,
+            Fault::Tail => Reason::Disagrees,
+        }
+    }
 
-    pub const KIND_HERE: Reason = Reason::WrongKind;
+    // The refusal of a file for it, at a place.
+    pub fn at(self, place: usize) -> Refusal
+        ensures { numbered result ≡ record { number = fault_number self; place = place } }
+    {
+        refusal_at(self.reason(), place)
+    }
+}
 
-    pub const WRONG_LENGTH: Reason = Reason::WrongLength;
+// A number that a file holds in so many bytes, the lowest first: by what it is read, and as what it is written.
+pub trait Stored: Copy {
+    ghost read: { List ℕ → ℕ → Self };
 
-    pub const BODY_CUT: Reason = Reason::RanOut;
+    ghost bytes: { Self → List ℕ };
 
-    pub const DISAGREES: Reason = Reason::Disagrees;
+    ghost WIDTH: { ℕ };
 
-    pub const TAIL: Reason = Reason::Disagrees;
+    const WIDTH: usize;
+
+    // The number whose bytes stand at a place.
+    fn load(input: &[u8], at: usize) -> Self
+        requires { at + WIDTH ≤ length input.now }
+        ensures { result ≡ read input.now at };
+
+    // Its bytes, put at a place.
+    fn store(self, out: &mut [u8], at: usize)
+        requires { at + WIDTH ≤ length out.old }
+        ensures { out.new ≡ sets out.old at (bytes self) };
+
+    ghost long: { (n : Self) → length (bytes n) ≡ WIDTH };
+}
+
+impl Stored for u16 {
+    ghost read = { le16 };
+
+    ghost bytes = { bytes16 };
+
+    ghost WIDTH = { 2 };
+
+    const WIDTH: usize = 2;
+
+    #[tactic(auto, unfolding(crate::specs::Bytes::le16))]
+    fn load(input: &[u8], at: usize) -> u16 {
+        u16::from_le_bytes([input[at], input[at + 1]])
+    }
+
+    fn store(self, out: &mut [u8], at: usize) {
+        out[at..at + 2].copy_from_slice(&self.to_le_bytes());
+    }
+
+    ghost long = { long16 };
+}
+
+impl Stored for u32 {
+    ghost read = { le32 };
+
+    ghost bytes = { bytes32 };
+
+    ghost WIDTH = { 4 };
+
+    const WIDTH: usize = 4;
+
+    #[tactic(auto, unfolding(crate::specs::Bytes::le32, crate::specs::Bytes::le16))]
+    fn load(input: &[u8], at: usize) -> u32 {
+        u32::from_le_bytes([input[at], input[at + 1], input[at + 2], input[at + 3]])
+    }
+
+    fn store(self, out: &mut [u8], at: usize) {
+        out[at..at + 4].copy_from_slice(&self.to_le_bytes());
+    }
+
+    ghost long = { long32 };
+}
+
+// Stores numbers one after the other, from a place on.
+pub fn store_all<T: Stored>(out: &mut [u8], at: usize, numbers: &[T])
+    requires { at + T.WIDTH * length numbers.now ≤ length out.old }
+    ensures { out.new ≡ sets out.old at (spelled T.bytes numbers.now) }
+{
+    for (i, number) in numbers.iter().enumerate() {
+        number.store(out, at + T::WIDTH * i);
+    }
 }
 
 // The bytes from a place on; a place past the input counts as nothing left.
 pub fn bytes_left(input: &[u8], at: usize) -> usize
     ensures { result ≡ left input.now at }
 {
-    if input.len() <= at {
-        return 0;
-    }
-    input.len() - at
+    input.len().saturating_sub(at)
 }
 
 // Two bytes, the lower first.
+#[tactic(auto, using(crate::proofs::Bytes::none_left, crate::proofs::Bytes::one_left))]
 pub fn word(input: &[u8], at: usize) -> u16
     ensures { result ≡ le16 input.now at }
 {
-    let here = bytes_left(input, at);
-    if here < 1 {
-        return 0;
+    match bytes_left(input, at) {
+        0 => 0,
+        1 => u16::from(input[at]),
+        _ => u16::load(input, at),
     }
-    let low = input[at] as u16;
-    if here < 2 {
-        return low;
-    }
-    let high = input[at + 1] as u16;
-    low + 256 * high
 }
 
 // The number of two bytes that has so many such numbers before it, from a place on.
+#[tactic(auto, using(crate::proofs::Bytes::none_left))]
 pub fn word_after(input: &[u8], start: usize, before: usize) -> u16
     ensures { result ≡ le16 input.now (start + 2 * before) }
 {
@@ -69,38 +154,22 @@ pub fn word_after(input: &[u8], start: usize, before: usize) -> u16
 }
 
 // Four bytes, the lowest first.
+#[tactic(auto, unfolding(crate::specs::Bytes::le32))]
 pub fn quad(input: &[u8], at: usize) -> u32
     ensures { result ≡ le32 input.now at }
 {
-    let low = word(input, at) as u32;
-    let high = word_after(input, at, 1) as u32;
+    let low = u32::from(word(input, at));
+    let high = u32::from(word_after(input, at, 1));
     low + 65536 * high
 }
 
 // As many numbers of two bytes, from a place on, as `out` is long.
+#[tactic(auto, using(crate::proofs::Bytes::word_more), unfolding(crate::specs::Bytes::words))]
 pub fn read_words(input: &[u8], start: usize, out: &mut [u16])
     ensures { out.new ≡ words input.now start (length out.old) }
 {
-    let mut i = 0;
-    while i < out.len() {
-        out[i] = word_after(input, start, i);
-        i += 1;
-    }
-}
-
-// Stores numbers of two bytes each, the lower first, from a place on.
-fn store_numbers(out: &mut [u8], at: usize, numbers: &[u16])
-    requires { at + 2 * length numbers.now ≤ length out.old }
-    ensures { out.new ≡ sets out.old at (bytes_of numbers.now) }
-{
-    let mut next = at;
-    let mut i: usize = 0;
-    while i < numbers.len() {
-        let number = numbers[i];
-        out[next] = (number % 256) as u8;
-        out[next + 1] = (number / 256) as u8;
-        next += 2;
-        i += 1;
+    for (i, number) in out.iter_mut().enumerate() {
+        *number = word_after(input, start, i);
     }
 }
 
@@ -108,13 +177,10 @@ fn store_numbers(out: &mut [u8], at: usize, numbers: &[u16])
 pub fn write_numbers(out: &mut [u8], at: usize, numbers: &[u16])
     ensures { out.new ≡ laid_at out.old at (bytes_of numbers.now) }
 {
-    if out.len() < at {
+    if out.len() < at || (out.len() - at) / 2 < numbers.len() {
         return;
     }
-    if (out.len() - at) / 2 < numbers.len() {
-        return;
-    }
-    store_numbers(out, at, numbers);
+    store_all(out, at, numbers);
 }
 
 // The body length of the record at a place.
@@ -132,31 +198,32 @@ pub fn kind_at(input: &[u8], at: usize) -> u16
 }
 
 // What is asked of the record at a place before its body is looked at, by whether its kind is allowed there and its length is right.
-pub fn check_frame(input: &[u8], at: usize, allowed: bool, right: bool) -> Checked
+#[tactic(auto, unfolding(crate::specs::Faults::frame_checks))]
+pub fn check_frame(input: &[u8], at: usize, allowed: bool, right: bool) -> Result<(), Refusal>
     ensures { said_by result ≡ first (frame_checks input.now at allowed right) }
 {
     let here = bytes_left(input, at);
     if here < 4 {
-        return Checked::Refused(refusal_at(Fault::CUT, at));
+        return Err(Fault::Cut.at(at));
     }
     if !allowed {
-        return Checked::Refused(refusal_at(Fault::KIND_HERE, at));
+        return Err(Fault::KindHere.at(at));
     }
     if !right {
-        return Checked::Refused(refusal_at(Fault::WRONG_LENGTH, at));
+        return Err(Fault::WrongLength.at(at));
     }
     if here - 4 < length_at(input, at) {
-        return Checked::Refused(refusal_at(Fault::BODY_CUT, at));
+        return Err(Fault::BodyCut.at(at));
     }
-    Checked::Passed
+    Ok(())
 }
 
 // That no bytes stand from the end of a file on.
-pub fn check_tail(input: &[u8], end: usize) -> Checked
+pub fn check_tail(input: &[u8], end: usize) -> Result<(), Refusal>
     ensures { said_by result ≡ first (tail input.now end ∷ []) }
 {
     if end < input.len() {
-        return Checked::Refused(refusal_at(Fault::TAIL, end));
+        return Err(Fault::Tail.at(end));
     }
-    Checked::Passed
+    Ok(())
 }

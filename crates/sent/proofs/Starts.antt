@@ -21,6 +21,16 @@ unfolding twos16
 twos_small (pos n) = omega arith
 twos_small (negsuc n) = omega arith
 
+-- the low 16 bits of a difference that wraps around 2 ^ 64, which is a multiple of 2 ^ 16
+pub bits_are : (a b : ℕ) → a < 18446744073709551616 → b < 18446744073709551616 → (a + (18446744073709551616 - b)) % 18446744073709551616 % 65536 ≡ twos16 (pos a -ℤ pos b)
+unfolding twos16
+bits_are a zero l m = omega arith
+bits_are a (suc b) l m = go (ltb a (suc b)) refl
+  where
+    go : (x : Bool) → ltb a (suc b) ≡ x → (a + (18446744073709551616 - suc b)) % 18446744073709551616 % 65536 ≡ twos16 (cond x (negsuc (suc b - suc a)) (pos (a - suc b)))
+    go true e = let l = ltb-true a (suc b) e in omega arith
+    go false e = let l = ltb-false a (suc b) e in omega arith
+
 -- a number that has 16 bits
 abbrev pub Short : ℤ → Type 0
 Short (pos n) = n < 32_768

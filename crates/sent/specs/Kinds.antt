@@ -2,6 +2,8 @@
 -- lengths are right. Assumes nothing.
 use Rattle.std.specs.Prelude.{ℕ, ◌+◌, ◌*◌, Bool, cond, ltb, eqb}
 use Rattle.paper.specs.Layer.{tmax}
+use Rattle.sent.specs.declared.Kind.{Kind}
+use Rattle.sent.specs.declared.Kind.TheVariants as kind
 
 -- 'kind 16, N (2), T (4), column count (4); kind 17, one start (signed, 2) and its tmax cells (4 each); kind 18, the number of rows (2)'
 abbrev pub head_kind : ℕ
@@ -12,6 +14,12 @@ row_kind = 17
 
 abbrev pub end_kind : ℕ
 end_kind = 18
+
+-- the number of a kind
+abbrev pub kind_number : Kind → ℕ
+kind_number kind.Head = head_kind
+kind_number kind.Row = row_kind
+kind_number kind.End = end_kind
 
 abbrev pub head_length : ℕ
 head_length = 10
