@@ -23,16 +23,16 @@ module _ (head : Head) (t : ℕ) where
   unfolding cap_of
   cap-allowed e = rw e
 
-  pub cap-barred : allowed head.members t ≡ false → cap_of head t ≡ greatest_cell
+  pub cap_barred : allowed head.members t ≡ false → cap_of head t ≡ greatest_cell
   unfolding cap_of
-  cap-barred e = rw e
+  cap_barred e = rw e
 
   cap-tells : is_over head ≡ false → t ≤ most_thickness → ltb (cap_of head t) greatest_cell ≡ allowed head.members t
   cap-tells few thin = go (allowed head.members t) refl
     where
       go : (b : Bool) → allowed head.members t ≡ b → ltb (cap_of head t) greatest_cell ≡ b
       go true e = lt-ltb (cap_of head t) greatest_cell (omega (arith, cap-allowed e, limit-le head t few thin))
-      go false e = le-ltb (cap_of head t) greatest_cell (omega (arith, cap-barred e))
+      go false e = le-ltb (cap_of head t) greatest_cell (omega (arith, cap_barred e))
 
 -- those of a table's own head, over the rows of its settings
 module _ {head : Head} {s : Settings} (k : SettingsFor head s) (few : is_over head ≡ false) where

@@ -3,6 +3,7 @@
 use mathlib.Core.Path.{◌≡◌, refl}
 use mathlib.Core.List.{List, [], ◌∷◌}
 use Prim.Native.Nat.{ℕ, zero, suc, ◌+◌, ◌≤◌, ◌<◌}
+use native.Mathlib.Numerals.{add-one}
 use native.Mathlib.Omega.{arith}
 use native.Mathlib.Decide.{dec_lt, ℕ_discrete}
 use borrow.Author.Tests.{lt-ltb, le-ltb, eq-eqb, ne_eqb}
@@ -88,10 +89,7 @@ pub carried_none : (bs : List ℕ) (k : ℕ) → k ≡ carried bs k 0
 unfolding carried
 carried_none bs k = refl
 
-pub carried-more : (bs : List ℕ) (k i : ℕ) → stepped bs (carried bs k i) (get_or bs k 0 + i) ≡ carried bs k (suc i)
+pub carried-next : (bs : List ℕ) (k i : ℕ) {passed from next : ℕ} → passed ≡ carried bs k i → from ≡ get_or bs k 0 → next ≡ stepped bs passed (from + i)
+    → next ≡ carried bs k (i + 1)
 unfolding carried
-carried-more bs k i = refl
-
--- what was filled in
-pub states-filled : {bs : List ℕ} {k n : ℕ} {old states : List ℕ} (m : ℕ) → m ≤ n → Span 0 0 n (λ i x. state_at bs k i) old states → States bs k m states
-states-filled m l w = record { are = λ i u. front-inside w i (omega arith) }
+carried-next bs k i p f n = rw add-one (rw (p, f) at n)

@@ -32,23 +32,6 @@ pub near-from : {bs : List ℕ} {m row k : ℕ} (from b : ℕ) → k < length bs
     → Near bs m from (b + m - 1) k
 near-from from b l is p u o e = record { there = l; under = under-later from (omega arith) u; place = omega arith; near = omega arith; order = omega arith }
 
--- each of the rows near a boundary faces it
-pub near-faces : {bs : List ℕ} {m from to k : ℕ} (row : ℕ) → Near bs m from to k → from ≤ row → row < to → Facing bs m row k (to - row)
-near-faces row w l u = record {
-  there = w.there;
-  under = under-later row l w.under;
-  place = omega (arith, w.place);
-  above = omega arith;
-  near = omega (arith, w.place, w.near);
-}
-
--- so many boundaries and rows are left, and fewer after either
-pub turn-row : (n k rows row near : ℕ) → row ≤ near → near < rows → n - k + (rows - (near + 1)) < n - k + (rows - row)
-turn-row n k rows row near l u = omega arith
-
-pub turn-boundary : (n k rows row near : ℕ) → k < n → row ≤ near → n - (k + 1) + (rows - near) < n - k + (rows - row)
-turn-boundary n k rows row near l u = omega arith
-
 -- ---- a row's layers
 
 module _ (bs : List ℕ) (r : Rising bs) {m row k first : ℕ} (thick : m ≤ 32) (f : Facing bs m row k first) where

@@ -17,25 +17,19 @@ use table::row_end;
 pub fn lesser(a: u32, b: u32) -> u32
     ensures { result ≡ min a b }
 {
-    if a < b { a } else { b }
+    a.min(b)
 }
 
 // The later of two rows.
 pub fn later(a: usize, b: usize) -> usize
     ensures { result ≡ max a b }
 {
-    if a < b { b } else { a }
-}
-
-// The sooner of two ends.
-fn sooner(a: usize, b: usize) -> usize
-    ensures { result ≡ min a b }
-{
-    if a < b { a } else { b }
+    a.max(b)
 }
 
 // What a cell of thickness t may hold for a column to be added to it; all that a cell can hold where t is not allowed, since nothing is added
 // there.
+#[tactic(auto, using(crate::proofs::Caps::cap_barred))]
 fn cap_of(head: Head, t: usize) -> u32
     requires head_value { is_over head ≡ false }
     requires t_le_most_thickness { t ≤ most_thickness }
@@ -44,7 +38,7 @@ fn cap_of(head: Head, t: usize) -> u32
     if is_allowed(head.members, t) {
         head.columns * ((t / 2) as u32)
     } else {
-        4294967295
+        u32::MAX
     }
 }
 
@@ -53,11 +47,9 @@ pub fn fill_caps(caps: &mut [u32], head: Head, width: usize)
     ensures { Span 0 0 (min (min width most_thickness) (length caps.old)) (λ j x. cap_of (capped head) (j + 1)) caps.old caps.new }
 {
     let within = head.capped();
-    let end = sooner(row_end(width), caps.len());
-    let mut j: usize = 0;
-    while j < end {
+    let end = row_end(width).min(caps.len());
+    for j in 0..end {
         caps[j] = cap_of(within, j + 1);
-        j += 1;
     }
 }
 
@@ -65,22 +57,18 @@ pub fn fill_caps(caps: &mut [u32], head: Head, width: usize)
 pub fn boundary_at(column: &[u16], k: usize) -> usize
     ensures { (result ≡ get_or column.now k 0) × (result < 65536) }
 {
-    if k < column.len() {
-        return column[k] as usize;
-    }
-    0
+    column.get(k).map_or(0, |boundary| usize::from(*boundary))
 }
 
 // How many boundaries are passed at a voxel, where so many are passed below it: the next one too, if it is the voxel's.
+#[tactic(auto, unfolding(crate::specs::Carried::stepped))]
 fn passed_at(column: &[u16], passed: usize, voxel: usize) -> usize
     ensures { result ≡ stepped column.now passed voxel }
 {
-    if passed < column.len() {
-        if column[passed] as usize == voxel {
-            return passed + 1;
-        }
+    match column.get(passed) {
+        Some(boundary) if usize::from(*boundary) == voxel => passed + 1,
+        _ => passed,
     }
-    passed
 }
 
 // The voxels from boundary k up into a buffer, 1 inside and 0 outside, where k boundaries are passed below it: so many of them, or as many as
@@ -89,13 +77,10 @@ pub fn fill_states(states: &mut [u32], column: &[u16], k: usize, width: usize)
     ensures { Span 0 0 (min width (length states.old)) (λ i x. state_at column.now k i) states.old states.new }
 {
     let from = boundary_at(column, k);
-    let end = sooner(width, states.len());
     let mut passed = k;
-    let mut i: usize = 0;
-    while i < end {
+    for i in 0..width.min(states.len()) {
         passed = passed_at(column, passed, from + i);
         states[i] = (passed % 2) as u32;
-        i += 1;
     }
 }
 

@@ -1,44 +1,33 @@
 // The table of a plate: what asks whether it is in order, and clearing it. Adding a column, joining and taking off are crates of their own.
 #![tactic(auto)]
 
-ghost use Rattle.std.specs.Prelude.{◌≡◌, false, ℕ, ◌+◌, ◌-◌, ◌*◌, ◌<◌, ◌≤◌, min, length, get_or};
-ghost use Rattle.lists.specs.Search.{lowest};
-ghost use Rattle.lists.specs.Rewrite.{Span};
+ghost use Rattle.std.specs.Prelude.{◌≡◌, false, ℕ, ◌+◌, ◌*◌, ◌<◌, ◌≤◌, min, length, get_or};
 ghost use Rattle.paper.specs.Limits.{most_thickness};
 ghost use Rattle.paper.specs.Table.{cell_index};
 ghost use Rattle.plate.specs.Call.{Does};
-ghost use Rattle.plate.specs.Head.{held_in, told_table, capped, is_over, limit_of, SettingsFor};
+ghost use Rattle.plate.specs.Head.{held_in, capped, is_over, cells_of, limit_of, SettingsFor};
 ghost use Rattle.plate.specs.Settings.{Sound, Judges};
-ghost use Rattle.table.specs.Cells.{first_out};
+ghost use Rattle.table.specs.Cells.{out_of_bounds};
+ghost use Rattle.lists.specs.Search.{IsLowest};
 ghost use Rattle.table.specs.Limits.{Limits, NoneAbove, above, above_at};
 ghost use Rattle.table.specs.Table.{table_rest, table_checks, clearing};
+ghost use Rattle.plate.specs.Refusal.{told};
 
-use plate::head::{Head, Tabled};
-use plate::refusal::{Reason, refusal_at};
-use plate::settings::{Made, Settings, is_allowed};
+use plate::head::Head;
+use plate::refusal::{Reason, Refusal, refusal_at};
+use plate::settings::{Settings, is_allowed};
 
 // The cell of a row and a thickness from 1 on; 0 past the buffer's end.
 pub fn cell_of(table: &[u32], greatest: u32, row: u32, t: u32) -> u32
     ensures { result ≡ get_or table.now (cell_index greatest row t) 0 }
 {
     let first = row as usize * greatest as usize;
-    if t == 0 {
-        return cell_or_none(table, first);
-    }
-    cell_or_none(table, first + (t as usize - 1))
-}
-
-// The cell at an index; 0 past the buffer's end.
-fn cell_or_none(table: &[u32], at: usize) -> u32
-    ensures { result ≡ get_or table.now at 0 }
-{
-    if at < table.len() {
-        return table[at];
-    }
-    0
+    let place = (t as usize).saturating_sub(1);
+    table.get(first + place).copied().unwrap_or(0)
 }
 
 // The most that a cell of thickness t can hold.
+#[tactic(auto, unfolding(plate::specs::Head::limit_of, paper::specs::Table::limit))]
 fn limit_of(head: Head, t: usize) -> u32
     requires head_value { is_over head ≡ false }
     requires t_le_most_thickness { t ≤ most_thickness }
@@ -57,10 +46,8 @@ pub fn limits_of(head: Head) -> [u32; 32]
 {
     let within = head.capped();
     let mut limits = [0u32; 32];
-    let mut j: usize = 0;
-    while j < 32 {
-        limits[j] = limit_of(within, j + 1);
-        j += 1;
+    for (j, limit) in limits.iter_mut().enumerate() {
+        *limit = limit_of(within, j + 1);
     }
     limits
 }
@@ -70,10 +57,7 @@ pub fn limits_of(head: Head) -> [u32; 32]
 pub fn row_end(width: usize) -> usize
     ensures { result ≡ min width most_thickness }
 {
-    if 32 < width {
-        return 32;
-    }
-    width
+    width.min(32)
 }
 
 // Whether a cell of two rows is above its limit. The loop has no way out, so that it is quick where there is none, as is mostly so.
@@ -83,11 +67,9 @@ fn any_above(table: &[u32], limits: &[u32; 32], base: usize, next: usize, width:
 {
     let end = row_end(width);
     let mut found = false;
-    let mut j: usize = 0;
-    while j < end {
+    for j in 0..end {
         let limit = limits[j];
-        found = found | (limit < table[base + j]) | (limit < table[next + j]);
-        j += 1;
+        found |= (limit < table[base + j]) | (limit < table[next + j]);
     }
     found
 }
@@ -112,129 +94,92 @@ fn any_out(table: &[u32], limits: &[u32; 32], s: Settings) -> bool
     ensures { result ≡ false → (row : ℕ) → row < s.rows → NoneAbove limits.now table.now (row * s.tmax) s.tmax }
 {
     let mut found = false;
-    let mut row: usize = 0;
-    while row < s.rows {
-        let base = row * s.tmax;
-        let next = partner_of(s, row);
-        found = found | any_above(table, limits, base, next, s.tmax);
-        row += 2;
+    for pair in 0..s.rows.div_ceil(2) {
+        let row = 2 * pair;
+        found |= any_above(table, limits, row * s.tmax, partner_of(s, row), s.tmax);
     }
     found
 }
 
-// The first cell of a row that is above its limit, or the row's width, cell by cell.
-fn search_above(table: &[u32], limits: &[u32; 32], base: usize, width: usize) -> usize
+// The first cell of a row that is above its limit, by its place in the row, cell by cell.
+fn search_above(table: &[u32], limits: &[u32; 32], base: usize, width: usize) -> Option<usize>
     requires { (width ≤ most_thickness) × (base + width ≤ length table.now) }
-    ensures { result ≡ lowest (above limits.now table.now base) width }
+    ensures { IsLowest result (above limits.now table.now base) width }
 {
-    let mut j: usize = 0;
-    while j < width {
-        if limits[j] < table[base + j] {
-            return j;
-        }
-        j += 1;
-    }
-    j
+    (0..width).find(|j| limits[*j] < table[base + *j])
 }
 
-// The lowest cell above its limit, or the number of cells. Mostly there is none, which `any_out` tells sooner than a search.
-fn first_above(table: &[u32], limits: &[u32; 32], s: Settings) -> usize
+// The lowest cell above its limit. Mostly there is none, which `any_out` tells sooner than a search.
+fn first_above(table: &[u32], limits: &[u32; 32], s: Settings) -> Option<usize>
     requires sound { Sound s }
     requires cells_in_bounds { s.cells ≤ length table.now }
-    ensures { result ≡ lowest (above_at limits.now table.now s.tmax) s.cells }
+    ensures { IsLowest result (above_at limits.now table.now s.tmax) s.cells }
 {
     if !any_out(table, limits, s) {
-        return s.cells;
+        return None;
     }
-    let mut row: usize = 0;
-    while row < s.rows {
+    for row in 0..s.rows {
         let base = row * s.tmax;
-        let j = search_above(table, limits, base, s.tmax);
-        if j < s.tmax {
-            return base + j;
+        if let Some(j) = search_above(table, limits, base, s.tmax) {
+            return Some(base + j);
         }
-        row += 1;
     }
-    s.cells
+    None
 }
 
-// The lowest cell out of bounds, or the number of cells.
-fn first_out(table: &[u32], head: Head, s: Settings) -> usize
+// The lowest cell out of bounds.
+fn first_out(table: &[u32], head: Head, s: Settings) -> Option<usize>
     requires settings_for { SettingsFor head s }
     requires head_value { is_over head ≡ false }
     requires cells_in_bounds { s.cells ≤ length table.now }
-    ensures { result ≡ first_out (held_in head table.now) }
+    ensures { IsLowest result (out_of_bounds head table.now) (cells_of head) }
 {
     let limits = limits_of(head);
     first_above(table, &limits, s)
 }
 
-fn clear_cells(table: &mut [u32], cells: usize)
-    requires { cells ≤ length table.old }
-    ensures { Span 0 0 cells (λ i x. 0) table.old table.new }
-{
-    let mut i: usize = 0;
-    while i < cells {
-        table[i] = 0;
-        i += 1;
-    }
-}
-
 // Where the settings are in order: 3, 7, 6.
-fn check_rest(table: &[u32], head: Head, s: Settings) -> Made
+#[tactic(auto, unfolding(crate::specs::Table::table_rest, crate::specs::Table::short, crate::specs::Table::bound_checks, crate::specs::Table::out_cell, crate::specs::Cells::first_out))]
+fn check_rest(table: &[u32], head: Head, s: Settings) -> Result<Settings, Refusal>
     requires { SettingsFor head s }
     ensures { Judges result (table_rest (held_in head table.now)) head.height head.members }
 {
     if table.len() < s.cells {
-        return Made::Bad(refusal_at(Reason::ShortBuffer, 1));
+        return Err(refusal_at(Reason::ShortBuffer, 1));
     }
     if head.is_over() {
-        return Made::Bad(refusal_at(Reason::Columns, 0));
+        return Err(refusal_at(Reason::Columns, 0));
     }
-    let out = first_out(table, head, s);
-    if out < s.cells {
-        return Made::Bad(refusal_at(Reason::Cell, out));
+    if let Some(out) = first_out(table, head, s) {
+        return Err(refusal_at(Reason::Cell, out));
     }
-    Made::Good(s)
+    Ok(s)
 }
 
 // Whether a table that was handed over is in order: 1, 2, 3, 7, 6.
-pub fn check_table(table: &[u32], head: Head) -> Made
+pub fn check_table(table: &[u32], head: Head) -> Result<Settings, Refusal>
     ensures { Judges result (table_checks (held_in head table.now)) head.height head.members }
 {
-    let made = Settings::new(head.height, head.members);
-    match made {
-        Made::Bad(refusal) => Made::Bad(refusal),
-        Made::Good(s) => check_rest(table, head, s),
-    }
+    let s = Settings::new(head.height, head.members)?;
+    check_rest(table, head, s)
 }
 
 // 1, 2, 3 of a buffer for a table.
-fn check_room(table: &[u32], height: u32, members: u32) -> Made
+fn check_room(table: &[u32], height: u32, members: u32) -> Result<Settings, Refusal>
     ensures { Judges result (clearing height members table.now).checks height members }
 {
-    let made = Settings::new(height, members);
-    match made {
-        Made::Bad(refusal) => Made::Bad(refusal),
-        Made::Good(s) => {
-            if table.len() < s.cells {
-                return Made::Bad(refusal_at(Reason::ShortBuffer, 1));
-            }
-            Made::Good(s)
-        }
+    let s = Settings::new(height, members)?;
+    if table.len() < s.cells {
+        return Err(refusal_at(Reason::ShortBuffer, 1));
     }
+    Ok(s)
 }
 
 // Document 01, 'Clear a table': 1, 2, 3.
-pub fn clear_table(table: &mut [u32], height: u32, members: u32) -> Tabled
-    ensures { Does (clearing height members table.old) (told_table result) table.new }
+pub fn clear_table(table: &mut [u32], height: u32, members: u32) -> Result<Head, Refusal>
+    ensures { Does (clearing height members table.old) (told result) table.new }
 {
-    let made = check_room(table, height, members);
-    match made {
-        Made::Bad(refusal) => Tabled::Refused(refusal),
-        Made::Good(s) => {
-            clear_cells(table, s.cells);
-            Tabled::Done(Head::cleared(height, members))
-        }
-    }
+    let s = check_room(table, height, members)?;
+    table[..s.cells].fill(0);
+    Ok(Head::cleared(height, members))
 }
