@@ -29,7 +29,7 @@ use Rattle.table.proofs.Limits.{above-yes}
 use Rattle.near.specs.Caps.{greatest_cell, Allowing}
 use Rattle.near.specs.Facing.{Facing, Near, Reached}
 use Rattle.near.proofs.Carried.{rising-to}
-use Rattle.near.proofs.Facing.{under_none, under-later, under_more, near-from}
+use Rattle.near.proofs.Facing.{under_none, under_more, near-from}
 use Rattle.adding.specs.Adding.{addend}
 use Rattle.adding.specs.Heaped.{heaped, heaped_at}
 use Rattle.adding.proofs.Addends.{addend-allowed, addend-barred, and-false, heaped-touched, heaped-untouched}
@@ -130,10 +130,6 @@ module _ {s : Settings} (k : Sound s) {bs : List ℕ} (c : IsColumn s.height (co
 
     pub reached-near : (from : ℕ) → from ≡ max row b → Near bs s.tmax from (b + s.tmax - 1) q
     reached-near from e = near-from from b l is some w.under (w.next l) e
-
-    -- one of those rows is done with
-    pub reached-row : (from : ℕ) → from ≡ max row b → from < b + s.tmax - 1 → Reached bs s.tmax s.rows q (from + 1)
-    reached-row from e h = record { few = w.few; low = omega (arith, reached-in); under = under-later (from + 1) (omega arith) w.under; next = λ u. omega (arith, is) }
 
     pub reached-next : Reached bs s.tmax s.rows (q + 1) (b + s.tmax - 1)
     reached-next = record {

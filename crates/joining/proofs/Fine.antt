@@ -1,12 +1,12 @@
 -- Two tables in bounds, of the same settings, pass the refusals of joining where the limit lets them, and of taking off where the second is
 -- a part of the first. Assumes nothing.
-use Rattle.std.proofs.Common.{◌≡◌, ℕ, ◌+◌, ◌-◌, ◌<◌, ◌≤◌, Bool, true, false, ◌||◌, [], ◌∷◌, ◌++◌, length, get_or, ◌∙◌, arith, le-ltb, eq-eqb}
+use Rattle.std.proofs.Common.{◌≡◌, ℕ, ◌+◌, ◌-◌, ◌<◌, ◌≤◌, Bool, false, [], ◌∷◌, get_or, ◌∙◌, arith, le-ltb, eq-eqb}
 use mathlib.Core.Option.{none}
 use Rattle.lists.specs.Checks.{first}
 use Rattle.lists.proofs.Checks.{first-passed}
 use Rattle.paper.specs.Limits.{most_columns}
 use Rattle.paper.specs.Table.{thickness_at}
-use Rattle.plate.specs.Head.{Held, both, less, is_over, either_over, any_over, cells_of, limit_of, head_checks}
+use Rattle.plate.specs.Head.{Held, less, either_over, any_over, cells_of, limit_of, head_checks}
 use Rattle.plate.proofs.Heads.{few-not-over, few-not-over-both, more-not-less}
 use Rattle.table.specs.Table.{short, Bounded}
 use Rattle.table.proofs.Passed.{cells-fine}

@@ -1,3 +1,4 @@
 pub mod Parts
 pub mod Passed
 pub mod Fine
+pub mod Combined

@@ -1,6 +1,6 @@
 -- The tests of the loops that look for refusal 9, and what is known where it is not given. A cell's limit is the limit of its place in its
 -- row, for the columns that are left. Assumes nothing.
-use Rattle.std.proofs.Common.{◌≡◌, ℕ, ◌+◌, ◌-◌, ◌*◌, ◌%◌, ◌<◌, ◌≤◌, true, false, ltb, List, get_or, ap, arith, ltb-false, le-ltb, lt-ltb}
+use Rattle.std.proofs.Common.{◌≡◌, ℕ, ◌+◌, ◌-◌, ◌*◌, ◌<◌, ◌≤◌, ltb, List, get_or, ap, arith, ltb-false, le-ltb}
 use lib.Arith.{digits_mod}
 use Rattle.lists.proofs.Checks.{or-false}
 use Rattle.lists.proofs.Search.{lowest-before, lowest-none}
@@ -17,21 +17,6 @@ module _ (limits table other : List ℕ) where
   pub apart-row : (w r j : ℕ) → j < w → apart_at limits table other w (r * w + j) ≡ apart limits table other (r * w) j
   unfolding apart_at apart
   apart-row w r j l = ap (λ (x : ℕ). is_apart (get_or limits x 0) (get_or table (r * w + j) 0) (get_or other (r * w + j) 0)) (digits_mod r l)
-
-  module _ (base j : ℕ) where
-    pub apart-negative : get_or table (base + j) 0 < get_or other (base + j) 0 → apart limits table other base j ≡ true
-    unfolding apart
-    apart-negative l = simp (lt-ltb (get_or table (base + j) 0) (get_or other (base + j) 0) l)
-
-    pub apart_above : get_or other (base + j) 0 ≤ get_or table (base + j) 0 → get_or limits j 0 < get_or table (base + j) 0 - get_or other (base + j) 0
-        → apart limits table other base j ≡ true
-    unfolding apart
-    apart_above l u = simp (le-ltb (get_or table (base + j) 0) (get_or other (base + j) 0) l, lt-ltb _ _ u)
-
-    pub apart-no : get_or other (base + j) 0 ≤ get_or table (base + j) 0 → get_or table (base + j) 0 - get_or other (base + j) 0 ≤ get_or limits j 0
-        → apart limits table other base j ≡ false
-    unfolding apart
-    apart-no l u = simp (le-ltb (get_or table (base + j) 0) (get_or other (base + j) 0) l, le-ltb _ _ u)
 
 -- the test against the limits of what is left is document 01's
 pub part_at : {rest : Head} {s : Settings} → SettingsFor rest s → (limits table other : List ℕ) → Limits rest limits

@@ -1,6 +1,6 @@
 -- Joining and taking off where none of the refusals is given: the second table has the first's settings, both are in order, and 9 says that
 -- every cell of the second is at most the first's. Assumes nothing.
-use Rattle.std.proofs.Common.{◌≡◌, ℕ, ◌<◌, ◌≤◌, Bool, true, false, not, ◌&&◌, eqb, [], ◌∷◌, ◌++◌, length, get_or, sym, refl, ◌∙◌, ap₂, arith, ltb-false, eqb-true}
+use Rattle.std.proofs.Common.{◌≡◌, ℕ, ◌<◌, ◌≤◌, Bool, true, false, not, ◌&&◌, eqb, [], ◌∷◌, length, get_or, sym, refl, ◌∙◌, ap₂, arith, ltb-false, eqb-true}
 use mathlib.Core.Option.{none}
 use Rattle.lists.specs.Checks.{first}
 use Rattle.lists.proofs.Checks.{first-none, first-later, first-earlier, or-false}

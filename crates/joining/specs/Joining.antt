@@ -1,5 +1,5 @@
 -- Document 01, 'Join the second into the first' and 'Take the second off the first'. Assumes nothing.
-use Rattle.std.specs.Prelude.{◌≡◌, ℕ, ◌+◌, ◌-◌, ◌≤◌, Bool, false, not, ◌&&◌, List, [], ◌∷◌, ◌++◌, length, ◌==◌, nat_lt, slice_index}
+use Rattle.std.specs.Prelude.{◌≡◌, ℕ, ◌+◌, ◌-◌, ◌≤◌, ◌<◌, Bool, false, not, ◌&&◌, List, [], ◌∷◌, ◌++◌, length, ◌==◌, nat_lt, slice_index}
 use Rattle.std.proofs.Math.Option.{none}
 use Rattle.lists.specs.Checks.{Check, first}
 use Rattle.lists.specs.Rewrite.{rewritten}
@@ -42,6 +42,12 @@ pub record PairInOrder (held other : Held) (s : Settings) : Type 0 where
   pub for-other : SettingsFor other.head s
   pub one : InOrder held s
   pub two : InOrder other s
+
+-- each of the first n cells is what the rule may give for it and the other table's cell at its place; what stands past them stays
+pub record Combined (rule : ℕ → ℕ → ℕ → Type 0) (n : ℕ) (other old new : List ℕ) : Type 0 where
+  pub long : length new ≡ length old
+  pub inside : (i : ℕ) → i < n → rule (slice_index old i) (slice_index other i) (slice_index new i)
+  pub above : (i : ℕ) → n ≤ i → slice_index new i ≡ slice_index old i
 
 -- ---- Join the second into the first: 7 for either count or the sum. Returns the sum of counts
 
