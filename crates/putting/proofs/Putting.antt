@@ -1,13 +1,13 @@
 -- A last layer put on count after count. One count is one turn (`put-less`, `put-keep`); what is read lies before what is written, so that
 -- a turn leaves alone what the later ones read, and counts put on in two parts are put on (`put-more`). Assumes nothing.
-use Prim.Native.Nat.{ℕ, ◌+◌, ◌-◌, ◌≤◌, ◌<◌}
-use mathlib.Core.Path.{◌≡◌, refl, sym, ap, ◌∙◌}
+use Prim.Native.Nat.{ℕ, ◌+◌, ◌≤◌, ◌<◌}
+use mathlib.Core.Path.{◌≡◌, sym, ap, ◌∙◌}
 use mathlib.Core.List.{List}
 use native.Mathlib.Omega.{arith}
 use borrow.Author.Tests.{lt-ltb, le-ltb}
 use lib.ListN.{length, get_or, set}
 use Rattle.lists.proofs.Spans.{span_none, span_set, span-keep, span-as, span_more}
-use Rattle.putting.specs.Putting.{sum_or_none, sum_at, better_error, better_thickness, PutOn, Placed}
+use Rattle.putting.specs.Putting.{sum_or_none, sum_at, better_error, better_thickness, PutOn}
 
 -- the better of two
 pub error-less : (sum error : ℕ) → sum < error → better_error sum error ≡ sum
@@ -27,9 +27,6 @@ unfolding better_thickness
 thickness-keep sum error t thickness l = simp (le-ltb sum error l)
 
 module _ {apart first cell t : ℕ} {E F : List ℕ} where
-  pub put-none : PutOn apart first cell t 0 E F E F
-  put-none = record { errors-are = span_none (apart + first) _ E; thicknesses-are = span_none first _ F }
-
   -- counts after counts, the later ones from `next` on
   module _ {G H G' H' : List ℕ} {next : ℕ} (k j : ℕ) (is : next ≡ first + k) (r : PutOn apart first cell t k E F G H) (s : PutOn apart next cell t j G H G' H')
       (l : k + j ≤ apart) where
@@ -52,18 +49,6 @@ module _ {apart first cell t : ℕ} {E F : List ℕ} where
   -- a loop's end
   pub put_as : {k : ℕ} {G H : List ℕ} (n : ℕ) → PutOn apart first cell t k E F G H → k ≤ n → n ≤ k → PutOn apart first cell t n E F G H
   put_as {k} n r l u = let e : k ≡ n = omega arith in rw e at r
-
-  -- what counts that were put on leave room for
-  pub placed-rest : {G H : List ℕ} {next : ℕ} (n k : ℕ) → next ≡ first + k → Placed apart first n E F → PutOn apart first cell t k E F G H → k ≤ n → Placed apart next (n - k) G H
-  placed-rest {G} {H} n k is r s l = record {
-    before = omega (arith, r.before, s.thicknesses-are.long);
-    errors-long = omega (arith, r.errors-long, s.errors-are.long, s.thicknesses-are.long);
-    inside = omega (arith, r.inside, s.thicknesses-are.long);
-  }
-
--- the first counts of some
-pub placed-part : {apart first : ℕ} {E F : List ℕ} (n k : ℕ) → Placed apart first n E F → k ≤ n → Placed apart first k E F
-placed-part n k r l = record { before = r.before; errors-long = r.errors-long; inside = omega (arith, r.inside) }
 
 -- one count
 module _ (apart first cell t : ℕ) (E F : List ℕ) (sum : ℕ) (is : sum ≡ sum_at E cell first) where

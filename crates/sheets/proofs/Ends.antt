@@ -2,14 +2,17 @@
 -- (`entry-less`, `entry-keep`). In a sheet that is whole the entries of a count stand one row apart, so the least of them, from the lowest
 -- end height on, is `end_of` (`end_is`). Assumes nothing.
 use Prim.Native.Nat.{ℕ, ◌+◌, ◌-◌, ◌*◌, ◌^◌, ◌≤◌, ◌<◌}
-use mathlib.Core.Path.{◌≡◌, sym, ap, ◌∙◌}
+use mathlib.Core.Path.{◌≡◌, refl, sym, ap, ◌∙◌}
 use mathlib.Core.List.{List}
-use mathlib.Core.Option.{Option}
+use mathlib.Core.Option.{Option, none, some}
 use native.Mathlib.Decide.{dec_lt}
 use native.Mathlib.Nat.{add-mul}
 use native.Mathlib.Omega.{arith}
+use borrow.Author.Tests.{lt-ltb}
+use Rattle.std.specs.Prelude.{Some, MatchOption}
+use Rattle.std.specs.Prelude as rattle
 use lib.ListN.{length, get_or, get_or-eq_default}
-use Rattle.lists.specs.Best.{value, place, best_of}
+use Rattle.lists.specs.Best.{Best, nothing, found, value, better, best_of}
 use Rattle.lists.proofs.Best.{best-same}
 use Rattle.paper.specs.Layer.{tmax}
 use Rattle.paper.specs.Sheets.{entry_index, missing}
@@ -18,8 +21,10 @@ use Rattle.plate.specs.Settings.{Sound}
 use Rattle.plate.specs.declared.settings.Settings.{Settings}
 use Rattle.sequence.specs.Sequence.{lowest_end}
 use Rattle.sequence.specs.Sheets.{mark, unmark, entry, end_of}
-use Rattle.sequence.proofs.Marks.{Small, unmark-small, better-less, better-keep, best-small, best-more}
+use Rattle.sequence.proofs.Marks.{Small, unmark-small, mark-le, better-keep, best-small, best-more}
 use Rattle.sheets.specs.Entries.{least_from, least_end}
+use Rattle.sheets.specs.Least.{as_least, IsLeast}
+use Rattle.sheets.specs.declared.Least.{Least}
 use Rattle.sheets.proofs.Lists.{get_or-within, raised, best-raised}
 use Rattle.sheets.proofs.Places.{place_in, entry_at}
 
@@ -34,19 +39,30 @@ module _ (errors : List ℕ) (wide : (i : ℕ) → get_or errors i 0 < 2 ^ 64) w
   pub entry-small : (i : ℕ) → Small (unmark (get_or errors i missing))
   entry-small i = unmark-small _ (entry-le i)
 
-  pub end-small : (from apart many : ℕ) → Small (value (least_from errors from apart many))
-  unfolding least_from
-  end-small from apart many = best-small _ 0 many (λ k a b. entry-small (from + k * apart))
+-- the better of the best so far and of an entry below it
+took : (b : Best) (t : ℕ) (o : Option ℕ) → Small (value b) → mark o < mark (value b) → as_least (better b t o) ≡ Some (record { error = mark o; place = t })
+took b t none s l = absurd (let u = mark-le (value b) s in omega arith)
+took nothing t (some e) s l = refl
+took (found e₀ t₀) t (some e) s l = simp (lt-ltb e e₀ l)
 
 -- one entry more, which is e
-module _ (f : ℕ → Option ℕ) (a k e : ℕ) (small : (h : ℕ) → Small (f h)) (is : e ≡ mark (f (a + k))) where
-  pub entry-less : e < mark (value (best_of f a k)) → (e ≡ mark (value (best_of f a (k + 1)))) × (a + k ≡ place (best_of f a (k + 1)))
-  entry-less l =
-      let b = better-less (best_of f a k) (a + k) (f (a + k)) (best-small f a k (λ h u v. small h)) (omega arith) in
-      rw best-more (is ∙ sym b.0, sym b.1)
+module _ (f : ℕ → Option ℕ) (k e : ℕ) (small : (h : ℕ) → Small (f h)) (is : e ≡ mark (f k)) where
+  one-more : best_of f 0 (k + 1) ≡ better (best_of f 0 k) k (f k)
+  one-more = let z : 0 + k ≡ k = omega arith in rw z at (best-more f 0 k)
 
-  pub entry-keep : mark (value (best_of f a k)) ≤ e → best_of f a (k + 1) ≡ best_of f a k
-  entry-keep l = best-more f a k ∙ better-keep (best_of f a k) (a + k) (f (a + k)) (small (a + k)) (omega arith)
+  sofar : Small (value (best_of f 0 k))
+  sofar = best-small f 0 k (λ h u v. small h)
+
+  pub entry-less : e < mark (value (best_of f 0 k)) → IsLeast (Some (record { error = e; place = k })) (best_of f 0 (k + 1))
+  entry-less l = record { is = rw (is, one-more) (sym (took (best_of f 0 k) k (f k) sofar (omega arith))) }
+
+  pub entry-keep : {least : rattle.Option Least} → IsLeast least (best_of f 0 k) → mark (value (best_of f 0 k)) ≤ e → IsLeast least (best_of f 0 (k + 1))
+  entry-keep w l = record { is = rw (one-more, better-keep (best_of f 0 k) k (f k) (small k) (omega arith)) w.is }
+
+-- what a loop compares with
+pub error-or : {least : rattle.Option Least} {best : Best} {x : ℕ} → IsLeast least best → MatchOption least (x ≡ missing) (λ l. x ≡ l.error) → x ≡ mark (value best)
+error-or {best = nothing} w m = rw w.is at m
+error-or {best = found e t} w m = rw w.is at m
 
 -- the end heights of a whole sheet
 module _ (s : Settings) (sound : Sound s) (errors : List ℕ) (whole : s.entries ≤ length errors) (n : ℕ) (few : n ≤ s.counts) where

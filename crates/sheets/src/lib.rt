@@ -12,10 +12,10 @@ ghost use Rattle.sheets.specs.Least.{IsLeast};
 
 use plate::settings::is_allowed;
 
-// The entry that stands for none.
-pub const NONE: u64 = 18446744073709551615;
+// The entry that stands for none. A sheet is memory that a caller in C lends, and document 01 says what its entries hold, so an entry is no Option.
+pub const NONE: u64 = u64::MAX;
 
-// The least of some entries, and the lowest place among them that has it; NONE, at 0, where there is none.
+// The least of some entries, and the lowest place among them that has it.
 #[derive(Clone, Copy)]
 pub struct Least {
     pub error: u64,
@@ -33,25 +33,18 @@ pub fn entry_index(most: u32, row: u32, m: u32) -> usize
 pub fn row_of(tmax: u32, h: u32) -> usize
     ensures { result ≡ row_of tmax h }
 {
-    let above = h as usize + tmax as usize;
-    if above < 33 {
-        return 0;
-    }
-    above - 33
+    (h as usize + tmax as usize).saturating_sub(33)
 }
 
 // The height of a row.
 pub fn at_row(tmax: u32, row: u32) -> usize
     ensures { result ≡ at_row tmax row }
 {
-    let above = row as usize + 33;
-    if above < tmax as usize {
-        return 0;
-    }
-    above - tmax as usize
+    (row as usize + 33).saturating_sub(tmax as usize)
 }
 
 // Whether a height is a start.
+#[tactic(auto, unfolding(sequence::specs::Sequence::starts))]
 pub fn is_start(tmax: usize, h: usize) -> bool
     ensures { result ≡ starts tmax h }
 {
@@ -81,45 +74,29 @@ pub fn is_layer(height: u16, members: u32, tmax: u16, row: u32, t: usize) -> boo
 fn entry_at(errors: &[u64], at: usize) -> u64
     ensures { result ≡ get_or errors.now at missing }
 {
-    if errors.len() <= at {
-        return NONE;
-    }
-    errors[at]
+    errors.get(at).copied().unwrap_or(NONE)
 }
 
 // The least of the `many` entries at `from`, `from` + `apart` and so on.
-fn least_entry(errors: &[u64], from: usize, apart: u32, many: u16) -> Least
+fn least_entry(errors: &[u64], from: usize, apart: u32, many: u16) -> Option<Least>
     requires { from < 8589934592 }
     ensures { IsLeast result (least_from errors.now from apart many) }
 {
-    let mut error = NONE;
-    let mut place = 0;
-    let mut at = from;
-    let mut k = 0;
-    while k < many as usize {
-        let e = entry_at(errors, at);
-        let here = k;
-        at += apart as usize;
-        k += 1;
-        if e < error {
-            error = e;
-            place = here;
+    let mut least: Option<Least> = None;
+    for place in 0..usize::from(many) {
+        let error = entry_at(errors, from + place * apart as usize);
+        if error < least.map_or(NONE, |best| best.error) {
+            least = Some(Least { error, place });
         }
     }
-    Least { error, place }
+    least
 }
 
 // The least entry of the count n at the end heights, in a sheet of counts up to `most`.
-pub fn least_end(errors: &[u64], height: u16, tmax: u16, most: u16, n: u16) -> Least
+pub fn least_end(errors: &[u64], height: u16, tmax: u16, most: u16, n: u16) -> Option<Least>
     ensures { IsLeast result (least_end errors.now height tmax most n) }
 {
-    if tmax == 0 {
-        return Least {
-            error: NONE,
-            place: 0,
-        };
-    }
-    let row = height as u32 + tmax as u32 - 1;
-    let from = entry_index(most as u32, row, n as u32);
-    least_entry(errors, from, most as u32 + 1, tmax)
+    let row = (u32::from(height) + u32::from(tmax)).saturating_sub(1);
+    let from = entry_index(u32::from(most), row, u32::from(n));
+    least_entry(errors, from, u32::from(most) + 1, tmax)
 }
