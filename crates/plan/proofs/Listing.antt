@@ -17,8 +17,6 @@ use Rattle.sequence.specs.Sheets.{mark, unmark, error_entry, entry, end_of}
 use Rattle.sequence.proofs.Marks.{unmark-mark}
 use Rattle.sequence.proofs.Sheets.{entry-is}
 use Rattle.sheets.specs.Entries.{least_end}
-use Rattle.sheets.specs.Least.{IsLeast}
-use Rattle.sheets.specs.declared.Least.{Least}
 use Rattle.sheets.proofs.Ends.{end_is}
 use Rattle.sheets.proofs.Lists.{raised-value}
 use Rattle.sheets.proofs.Places.{entries-is}
@@ -53,10 +51,9 @@ module _ (s : Settings) (bound : ℕ) (table : List ℕ) (ready : Ready s table)
         ∙ unmark-mark (least p n h) (least-small s bound table ready n h l))
 
     -- so the least entry that is found there is the least error
-    pub listed : (n : ℕ) → n ≤ s.counts → (least : Least) → IsLeast least (least_end errors s.height s.tmax s.counts n) → least.error ≡ mark (least_of p n)
+    pub listed : (n : ℕ) → n ≤ s.counts → mark (value (least_end errors s.height s.tmax s.counts n)) ≡ mark (least_of p n)
     unfolding least_of
-    listed n l least is =
-        is.error-is
-        ∙ ap mark
+    listed n l =
+        ap mark
         (sym (raised-value (lowest_end s.height) (least_end errors s.height s.tmax s.counts n))
         ∙ ap value (sym (end_is s ready.sound errors planned.whole n l) ∙ top-is n l))

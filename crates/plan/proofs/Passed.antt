@@ -13,12 +13,13 @@ use Rattle.paper.specs.Sheets.{entries}
 use Rattle.plate.specs.Head.{Held, cells_of, head_checks, SettingsFor}
 use Rattle.plate.specs.Settings.{Judges}
 use Rattle.plate.specs.declared.head.Head.{Head}
-use Rattle.plate.specs.declared.settings.Made.{Made}
 use Rattle.plate.specs.declared.settings.Settings.{Settings}
 use Rattle.plate.proofs.Heads.{head-fine}
 use Rattle.table.specs.Table.{short, bound_checks, table_checks}
 use Rattle.table.proofs.Passed.{table-asks, table-passed}
 use Rattle.plan.specs.Plan.{plan_rest, plan_checks, Plannable}
+use Rattle.std.specs.Prelude.{Result}
+use Rattle.plate.specs.declared.refusal.Refusal.{Refusal}
 
 -- the sizes of the sheets are those of the settings
 module _ {head : Head} {s : Settings} (k : SettingsFor head s) where
@@ -54,7 +55,7 @@ module _ (held : Held) (errors thicknesses leasts : ℕ) where
           unfolding plan_rest short
           rest-is = simp (le-ltb _ _ room, le-ltb _ _ e, le-ltb _ _ t, le-ltb _ _ m)
 
-          pub table-judged : {s : Settings} → SettingsFor held.head s → (made : Made) → Judges made (table_checks held) held.head.height held.head.members
+          pub table-judged : {s : Settings} → SettingsFor held.head s → (made : Result Settings Refusal) → Judges made (table_checks held) held.head.height held.head.members
               → Judges made (plan_rest held errors thicknesses leasts) held.head.height held.head.members
           table-judged k made j = record { says = j.says ∙ table-asks held (head-fine k) room ∙ rest-is; good = j.good }
 

@@ -1,3 +1,4 @@
 pub mod Planning
 pub mod Rows
+pub mod Working
 pub mod Plan

@@ -17,16 +17,16 @@ use Rattle.lists.proofs.Checks.{first-none, first-passed, first-later, or-false}
 use Rattle.paper.specs.Sequence.{M}
 use Rattle.paper.specs.Sheets.{entries}
 use Rattle.plate.specs.Call.{Does}
-use Rattle.plate.specs.Refusal.{Told, done, refusal, Numbered, numbered}
-use Rattle.plate.specs.Settings.{settings_checks, said_made, Judges}
+use Rattle.plate.specs.Refusal.{Told, done, refusal, Numbered, numbered, said_by}
+use Rattle.plate.specs.Settings.{settings_checks, Judges}
 use Rattle.plate.specs.declared.refusal.Refusal.{Refusal}
 use Rattle.plate.specs.declared.refusal.Reason.TheVariants as reason
-use Rattle.plate.specs.declared.settings.Made.{Made}
-use Rattle.plate.specs.declared.settings.Made.TheVariants.{Good, Bad}
 use Rattle.plate.specs.declared.settings.Settings.{Settings}
 use Rattle.plate.proofs.Calls.{refuses, works, stopped, passed, judges-bad, judges-good}
 use Rattle.sequence.specs.Sheets.{mark, entry, end_of, fault_under, boundaries_under}
 use Rattle.readback.specs.Reading.{size_checks, room_checks, is_nothing, walk_fault, entry_checks, reading}
+use Rattle.std.specs.Prelude.{Result, Ok, Err, MatchResult, IsErrAnd}
+use Rattle.std.proofs.lemmas.Result.{err_from_is_err_and}
 
 -- 3, 10, 3
 module _ (N T errors thicknesses n room : ℕ) where
@@ -81,22 +81,22 @@ module _ (N T errors thicknesses n room : ℕ) where
       }
 
 -- 1 and 2 by the settings, and then those
-module _ {N T : ℕ} {made : Made} (j : Judges made (settings_checks N T) N T) (errors thicknesses n room : ℕ) where
+module _ {N T : ℕ} {made : Result Settings Refusal} (j : Judges made (settings_checks N T) N T) (errors thicknesses n room : ℕ) where
   abbrev checks : List (Check Numbered)
   checks = room_checks N T errors thicknesses n room
 
   abbrev later : List (Check Numbered)
   later = size_checks N T errors thicknesses n room
 
-  pub settings-bad : (r : Refusal) → made ≡ Bad r → Judges made checks N T
+  pub settings-bad : (r : Refusal) → made ≡ Err r → Judges made checks N T
   settings-bad r e = judges-bad checks N T made r e (stopped j later r e)
 
-  module _ (s : Settings) (e : made ≡ Good s) where
-    pub size-bad : (r r' : Refusal) → r ≡ r' → some (numbered r') ≡ first later → Judges (Bad r) checks N T
-    size-bad r r' i q = judges-bad checks N T (Bad r) r' (ap Bad i) (q ∙ passed j later s e)
+  module _ (s : Settings) (e : made ≡ Ok s) where
+    pub size-bad : (r r' : Refusal) → r ≡ r' → some (numbered r') ≡ first later → Judges (Err r) checks N T
+    size-bad r r' i q = judges-bad checks N T (Err r) r' (ap Err i) (q ∙ passed j later s e)
 
-    pub size-good : none ≡ first later → Judges (Good s) checks N T
-    size-good q = judges-good checks N T (Good s) s refl (j.good s e) (q ∙ passed j later s e)
+    pub size-good : none ≡ first later → Judges (Ok s) checks N T
+    size-good q = judges-good checks N T (Ok s) s refl (j.good s e) (q ∙ passed j later s e)
 
 -- 11, 12
 module _ (N T : ℕ) (errors thicknesses : List ℕ) (n : ℕ) (out : List ℤ) (room : none ≡ first (room_checks N T (length errors) (length thicknesses) n (length out))) where
@@ -130,17 +130,34 @@ module _ (N T : ℕ) (errors thicknesses : List ℕ) (n : ℕ) (out : List ℤ) 
         works (reading N T errors thicknesses n out) x new (q ∙ rest-is) i (l ∙ rw at)
 
 -- 1, 2 and the checks on the room
-module _ {N T : ℕ} (errors thicknesses : List ℕ) (n : ℕ) (out : List ℤ) {made : Made} (j : Judges made (room_checks N T (length errors) (length thicknesses) n (length out)) N T) where
-  pub read-bad : (r : Refusal) → made ≡ Bad r → Does (reading N T errors thicknesses n out) (refusal r) out
+module _ {N T : ℕ} (errors thicknesses : List ℕ) (n : ℕ) (out : List ℤ) {made : Result Settings Refusal} (j : Judges made (room_checks N T (length errors) (length thicknesses) n (length out)) N T) where
+  pub read-bad : (r : Refusal) → made ≡ Err r → Does (reading N T errors thicknesses n out) (refusal r) out
   unfolding reading
   read-bad r e = refuses (reading N T errors thicknesses n out) r (stopped j (entry_checks N T errors thicknesses n) r e)
 
   -- past the checks on the room, over the settings that were made
-  pub room-left : (s : Settings) → made ≡ Good s → none ≡ first (room_checks s.height s.members (length errors) (length thicknesses) n (length out))
+  pub room-left : (s : Settings) → made ≡ Ok s → none ≡ first (room_checks s.height s.members (length errors) (length thicknesses) n (length out))
   room-left s e =
       subst (λ (s : Settings). none ≡ first (room_checks s.height s.members (length errors) (length thicknesses) n (length out))) (sym (j.good s e).0)
-      (ap said_made (sym e) ∙ j.says)
+      (ap said_by (sym e) ∙ j.says)
 
-  pub read-good : (s : Settings) → made ≡ Good s → (answer : Told ℕ) (new : List ℤ)
+  pub read-good : (s : Settings) → made ≡ Ok s → (answer : Told ℕ) (new : List ℤ)
       → Does (reading s.height s.members errors thicknesses n out) answer new → Does (reading N T errors thicknesses n out) answer new
   read-good s e answer new d = subst (λ (s : Settings). Does (reading s.height s.members errors thicknesses n out) answer new) (j.good s e).0 d
+
+-- what `map_err` made: of an error another error, and of none nothing
+module _ {X D E : Type 0} (of : Result X D) (made : Result X E) (P : D → E → Type 0) where
+  pub err_made : (Q : D → E → Type 0) → ((e : D) (r : E) → P e r → Q e r) → MatchResult of (λ x. made ≡ Ok x) (λ e. IsErrAnd made (P e)) → (r : E) → made ≡ Err r
+      → (e : D) × (of ≡ Err e) × Q e r
+  err_made Q says m r q = go of refl m
+    where
+      go : (o : Result X D) → of ≡ o → MatchResult o (λ x. made ≡ Ok x) (λ e. IsErrAnd made (P e)) → (e : D) × (of ≡ Err e) × Q e r
+      go (Ok x) i m = absurd (let z : ◌≡◌ {A = ℕ} 0 1 = cc in omega arith)
+      go (Err e) i m = let p = err_from_is_err_and made m in let same : p.0 ≡ r = cc in (e, i, says e r (subst (P e) same p.2))
+
+  pub ok_made : MatchResult of (λ x. made ≡ Ok x) (λ e. IsErrAnd made (P e)) → (x : X) → made ≡ Ok x → of ≡ Ok x
+  ok_made m x q = go of refl m
+    where
+      go : (o : Result X D) → of ≡ o → MatchResult o (λ x. made ≡ Ok x) (λ e. IsErrAnd made (P e)) → of ≡ Ok x
+      go (Ok y) i m = cc
+      go (Err e) i m = let p = err_from_is_err_and made m in absurd (let z : ◌≡◌ {A = ℕ} 0 1 = cc in omega arith)

@@ -1,39 +1,26 @@
--- The end that is found: an entry is at most the mark for none, so the least of those at the end heights is the mark exactly where there is
--- none, and else its place is that of the lowest end height that has it. Assumes nothing.
-use Prim.Native.Nat.{ℕ, ◌+◌, ◌-◌, ◌^◌, ◌≤◌, ◌<◌}
-use mathlib.Core.Path.{◌≡◌, refl, sym, ap, ◌∙◌}
+-- The end that is found: there is none exactly where no end height has an entry, and else its place is that of the lowest end height that has
+-- the least one. Assumes nothing.
+use Prim.Native.Nat.{ℕ, ◌+◌, ◌-◌, ◌≤◌, ◌<◌}
+use mathlib.Core.Path.{◌≡◌, refl, ◌∙◌}
 use mathlib.Core.Bool.{true, false}
 use mathlib.Core.List.{List}
 use native.Mathlib.Omega.{arith}
-use lib.ListN.{length, get_or}
+use lib.ListN.{length}
+use Rattle.std.specs.Prelude.{Some, None}
 use Rattle.lists.specs.Best.{Best, nothing, found, value, place, best_of}
 use Rattle.lists.proofs.Best.{best-in}
 use Rattle.paper.specs.Layer.{tmax}
-use Rattle.paper.specs.Sheets.{missing}
 use Rattle.plate.specs.Datum.{at_row}
 use Rattle.plate.specs.Settings.{Sound}
 use Rattle.plate.specs.declared.settings.Settings.{Settings}
 use Rattle.sequence.specs.Sequence.{lowest_end}
 use Rattle.sequence.specs.Sheets.{mark, unmark, entry, end_of}
-use Rattle.sequence.proofs.Marks.{Small}
 use Rattle.sheets.specs.Entries.{least_end}
 use Rattle.sheets.specs.Least.{IsLeast}
 use Rattle.sheets.specs.declared.Least.{Least}
-use Rattle.sheets.proofs.Ends.{end_is, end-small}
-use Rattle.sheets.proofs.Lists.{raised, raised-value}
+use Rattle.sheets.proofs.Ends.{end_is}
+use Rattle.sheets.proofs.Lists.{raised}
 use Rattle.readback.specs.Reading.{is_nothing}
-
-is-nothing : (b : Best) → Small (value b) → mark (value b) ≡ missing → is_nothing b ≡ true
-is-nothing nothing s e = refl
-is-nothing (found e₀ h) s e = absurd (omega arith)
-
-is_found : (b : Best) → (mark (value b) ≡ missing → ⊥) → is_nothing b ≡ false
-is_found nothing n = absurd (n refl)
-is_found (found e h) n = refl
-
-raised-place : (a : ℕ) (b : Best) → is_nothing (raised a b) ≡ false → a + place b ≡ place (raised a b)
-raised-place a nothing e = absurd (let z : ◌≡◌ {A = ℕ} 0 1 = cc in omega arith)
-raised-place a (found e h) q = refl
 
 -- the height that was found is an end height
 end-height : (N T : ℕ) (errors : List ℕ) (n : ℕ) → is_nothing (end_of N T errors n) ≡ false
@@ -46,8 +33,7 @@ end-height N T errors n q = go (end_of N T errors n) refl q
     go nothing e q = let z : ◌≡◌ {A = ℕ} 0 1 = cc in absurd (omega arith)
     go (found x h) e q = let i = best-in (λ h. unmark (entry N T errors n h)) (lowest_end N) (tmax T) x h e in (i.0, i.1)
 
-module _ (s : Settings) (sound : Sound s) (errors : List ℕ) (whole : s.entries ≤ length errors) (n : ℕ) (few : n ≤ s.counts)
-    (least : Least) (is : IsLeast least (least_end errors s.height s.tmax s.counts n)) where
+module _ (s : Settings) (sound : Sound s) (errors : List ℕ) (whole : s.entries ≤ length errors) (n : ℕ) (few : n ≤ s.counts) where
   abbrev end : Best
   end = end_of s.height s.members errors n
 
@@ -57,25 +43,30 @@ module _ (s : Settings) (sound : Sound s) (errors : List ℕ) (whole : s.entries
   same : end ≡ raised (lowest_end s.height) best
   same = end_is s sound errors whole n few
 
-  value-is : value end ≡ value best
-  value-is = ap value same ∙ raised-value (lowest_end s.height) best
+  -- 11, where nothing was found
+  pub without-end : IsLeast None best → is_nothing end ≡ true
+  without-end w = rw same (go best w)
+    where
+      go : (b : Best) → IsLeast None b → is_nothing (raised (lowest_end s.height) b) ≡ true
+      go nothing w = refl
+      go (found e h) w = cc w.is
 
-  pub error-is : least.error ≡ mark (value end)
-  error-is = is.error-is ∙ ap mark (sym value-is)
+  module _ (least : Least) (w : IsLeast (Some least) best) where
+    end-found : end ≡ found least.error (lowest_end s.height + least.place)
+    end-found = same ∙ go best w
+      where
+        go : (b : Best) → IsLeast (Some least) b → raised (lowest_end s.height) b ≡ found least.error (lowest_end s.height + least.place)
+        go nothing w = cc w.is
+        go (found e h) w = cc w.is
 
-  -- 11, by the error that was found
-  pub without_end : ((i : ℕ) → get_or errors i 0 < 2 ^ 64) → least.error ≡ missing → is_nothing end ≡ true
-  without_end wide e = is-nothing end (rw value-is (end-small errors wide _ _ _)) (sym error-is ∙ e)
-
-  module _ (some : least.error ≡ missing → ⊥) where
     pub with-end : is_nothing end ≡ false
-    with-end = is_found end (λ e. some (error-is ∙ e))
+    with-end = rw end-found refl
+
+    pub error-is : least.error ≡ mark (value end)
+    error-is = rw end-found refl
 
     top-is : lowest_end s.height + least.place ≡ place end
-    top-is =
-        ap (λ (k : ℕ). lowest_end s.height + k) is.place_is
-        ∙ raised-place (lowest_end s.height) best (ap is_nothing (sym same) ∙ with-end)
-        ∙ sym (ap place same)
+    top-is = rw end-found refl
 
     -- the height that was found is that of one of the last tmax rows
     pub top-low : least.place < s.tmax

@@ -9,19 +9,18 @@ use mathlib.Core.Option.{none, some}
 use native.Mathlib.Nat.{le_of_lt, not-suc-le-zero, le_of_suc-le-suc}
 use native.Mathlib.Numerals.{add-one, sub-one}
 use native.Mathlib.Omega.{arith}
-use borrow.Author.Tests.{ltb-true, lt-ltb, le-ltb, eq-eqb, ne_eqb}
+use borrow.Author.Tests.{ltb-true, lt-ltb, le-ltb}
 use lib.Dec.{ltb, eqb}
 use lib.IntN.{ℤ}
 use lib.ListN.{length, set, take, drop, get_or}
-use lib.Seq.{set_split, drop_at, length-take-le, take-set-lt, slice_empty}
+use lib.Seq.{set_split, drop_at, length-take-le, take-set-lt}
 use Rattle.paper.specs.Layer.{allowed, tmax}
 use Rattle.paper.proofs.Thicknesses.{and-true}
 use Rattle.plate.specs.Datum.{height_of}
 use Rattle.sequence.specs.Sequence.{starts, lowest_end}
 use Rattle.sequence.specs.Sheets.{reads_back, fault_under, boundaries_under}
 use Rattle.readback.specs.Walking.{fault_of, noted_from, Walked}
-use Rattle.readback.specs.declared.Walk.{Walk}
-use Rattle.readback.specs.declared.Walk.TheVariants.{Fault}
+use Rattle.std.specs.Prelude.{Result, Err, ⊤}
 
 fault-step : (look : ℕ → ℕ → ℕ) (N T n k h : ℕ) → 0 < k → fault_under look N T n k h
     ≡ cond (reads_back N T n k h (look k h)) (fault_under look N T n (k - 1) (h - look k h)) (some k)
@@ -54,13 +53,6 @@ fault-end look N T n k h e s = rw (e, s)
 pub fine_end : (look : ℕ → ℕ → ℕ) (N T n k h : ℕ) → k ≡ 0 → starts (tmax T) h ≡ true → fault_under look N T n k h ≡ none
 unfolding fault_under
 fine_end look N T n k h e s = rw (e, s)
-
--- what is asked of one layer alone: of another it is not asked
-pub another : (k n : ℕ) (b : Bool) → (k ≡ n → ⊥) → true ≡ not (eqb k n) || b
-another k n b e = simp (ne_eqb k n e)
-
-pub that-one : (k n : ℕ) (b : Bool) → k ≡ n → b ≡ not (eqb k n) || b
-that-one k n b e = simp (eq-eqb k n e)
 
 -- the tests of a layer, in the order in which they are asked
 module _ (N T n k h t : ℕ) where
@@ -104,21 +96,17 @@ noted n k h l p q =
     ap (λ (r : List ℕ). map height_of (drop k r)) (take-set-lt (n + 1) l k h (omega arith))
     ∙ ap (map height_of) (stored (take (n + 1) l) k h (omega arith))
 
--- one height noted, and a step down to the next: the boundaries still to note, under those that are, are as before
-pub noted_more : (look : ℕ → ℕ → ℕ) (n k h t noted-height next : ℕ) (l : List ℕ) → 0 < k → k ≤ n → n < length l → t ≡ look k h → noted-height ≡ h → next ≡ h - t
-    → boundaries_under look (k - 1) next (noted_from (k - 1 + 1) n (set l k noted-height)) ≡ boundaries_under look k h (noted_from (k + 1) n l)
-noted_more look n k h t v g l p u q is e d =
-    let back : k - 1 + 1 ≡ k = omega arith in
-    rw (back, e, d, noted n k h l u q, is) (sym (boundaries-step look k h (noted_from (k + 1) n l) p))
+-- one height noted, of the layers under m, and a step down to the next: the boundaries still to note, under those that are, are as before
+pub noted_more : (look : ℕ → ℕ → ℕ) (n m h t noted-height next : ℕ) (l : List ℕ) → 1 < m → m ≤ n + 1 → n < length l → t ≡ look (m - 1) h → noted-height ≡ h → next ≡ h - t
+    → boundaries_under look (m - 1 - 1) next (noted_from (m - 1) n (set l (m - 1) noted-height)) ≡ boundaries_under look (m - 1) h (noted_from m n l)
+noted_more look n m h t v g l p u q is e d =
+    let back : m - 1 + 1 ≡ m = omega arith in
+    rw (e, d, noted n (m - 1) h l (omega arith) q, is, back) (sym (boundaries-step look (m - 1) h (noted_from m n l) (omega arith)))
 
-pub noted-last : (look : ℕ → ℕ → ℕ) (n k h noted-height : ℕ) (l : List ℕ) → k ≡ 0 → n < length l → noted-height ≡ h
-    → noted_from 0 n (set l 0 noted-height) ≡ boundaries_under look k h (noted_from (k + 1) n l)
+pub noted-last : (look : ℕ → ℕ → ℕ) (n m h noted-height : ℕ) (l : List ℕ) → m ≡ 1 → n < length l → noted-height ≡ h
+    → noted_from 0 n (set l 0 noted-height) ≡ boundaries_under look (m - 1) h (noted_from m n l)
 unfolding boundaries_under
-noted-last look n k h v l e q i = rw i (noted n 0 h l (omega arith) q ∙ rw e)
-
--- before the first step none is noted
-pub noted-none : (n : ℕ) (l : List ℕ) → noted_from (n + 1) n l ≡ []
-noted-none n l = ap (map height_of) (slice_empty (n + 1) l)
+noted-last look n m h v l e q i = rw (i, e) (noted n 0 h l (omega arith) q)
 
 -- boundaries over what stands past them
 boundaries-over : (look : ℕ → ℕ → ℕ) (m h : ℕ) (above rest : List ℤ)
@@ -128,11 +116,11 @@ boundaries-over look zero h above rest = refl
 boundaries-over look (suc m) h above rest = boundaries-over look m (h - look (suc m) h) (height_of h ∷ above) rest
 
 -- a walk with a fault has nothing to note
-pub faulted : (look : ℕ → ℕ → ℕ) (N T n top layer : ℕ) (heights : List ℕ) → fault_under look N T n n top ≡ some layer → Walked look N T n top (Fault layer) heights
+pub faulted : (look : ℕ → ℕ → ℕ) (N T n top layer : ℕ) (heights : List ℕ) → fault_under look N T n n top ≡ some layer → Walked look N T n top (Err layer) heights
 faulted look N T n top layer heights e = record { ends = sym e; notes = λ q. let z : ◌≡◌ {A = ℕ} 0 1 = cc in absurd (omega arith) }
 
 -- what a walk without a fault noted, over what stands past it
-pub noted-under : (look : ℕ → ℕ → ℕ) (N T n top : ℕ) (walk : Walk) (heights : List ℕ) (rest new : List ℤ) → Walked look N T n top walk heights → fault_of walk ≡ none
+pub noted-under : (look : ℕ → ℕ → ℕ) (N T n top : ℕ) (walk : Result ⊤ ℕ) (heights : List ℕ) (rest new : List ℤ) → Walked look N T n top walk heights → fault_of walk ≡ none
     → new ≡ noted_from 0 n heights ++ rest → new ≡ boundaries_under look n top rest
 noted-under look N T n top walk heights rest new w e is = is ∙ ap (λ (l : List ℤ). l ++ rest) (w.notes e) ∙ boundaries-over look n top [] rest
 

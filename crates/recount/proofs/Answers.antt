@@ -18,11 +18,9 @@ use Rattle.paper.specs.Sequence.{◌!◌, count, error, error_under}
 use Rattle.plate.specs.Call.{Does}
 use Rattle.plate.specs.Datum.{datum}
 use Rattle.plate.specs.Head.{Held}
-use Rattle.plate.specs.Refusal.{number_of, Told, done, refused, refusal, Numbered, told_by}
-use Rattle.plate.specs.Settings.{settings_checks, said_made, Judges}
+use Rattle.plate.specs.Refusal.{number_of, Told, done, refused, refusal, Numbered, told_by, said_by}
+use Rattle.plate.specs.Settings.{settings_checks, Judges}
 use Rattle.plate.specs.declared.refusal.Refusal.{Refusal}
-use Rattle.plate.specs.declared.settings.Made.{Made}
-use Rattle.plate.specs.declared.settings.Made.TheVariants.{Good, Bad}
 use Rattle.plate.specs.declared.settings.Settings.{Settings}
 use Rattle.plate.proofs.Calls.{refuses, judges-bad, judges-good, stopped, passed}
 use Rattle.plate.proofs.Decided.{decided-passed, refused-first, told-done}
@@ -31,6 +29,7 @@ use Rattle.table.specs.Table.{table_checks}
 use Rattle.recount.specs.Layers.{sequence_answer}
 use Rattle.recount.specs.Recount.{layer_out, last_out, fault_at, first_fault, sequence_checks, unbounded_checks, recounting}
 use Rattle.recount.proofs.Faults.{fault-first, fault-layer, fault-last, fault-none}
+use Rattle.std.specs.Prelude.{Result, Ok, Err}
 
 -- n is one less than the boundaries
 pub count-is : (zs : List ℤ) → count zs ≡ length zs - 1
@@ -104,39 +103,39 @@ module _ (N T : ℕ) (table : List ℕ) (bound : ℕ) (zs : List ℤ) where
                     rw (b, a) (simp (lt-leb (lowest_end N) (datum (zs ! (k - 1))) below, le-ltb (datum (zs ! k)) (lowest_end N) (omega arith)))
 
 -- without a table: 1 and 2 were asked, and then 13 over no columns and the largest bound
-module _ (N T : ℕ) (zs : List ℤ) {made : Made} (j : Judges made (settings_checks N T) N T) where
+module _ (N T : ℕ) (zs : List ℤ) {made : Result Settings Refusal} (j : Judges made (settings_checks N T) N T) where
   abbrev asked : List (Check Numbered)
   asked = settings_checks N T ++ unbounded_checks N T zs
 
-  pub unsettled : (r : Refusal) → made ≡ Bad r → Judges made asked N T
+  pub unsettled : (r : Refusal) → made ≡ Err r → Judges made asked N T
   unsettled r e = judges-bad asked N T made r e (stopped j (unbounded_checks N T zs) r e)
 
-  module _ (s : Settings) (e : made ≡ Good s) where
+  module _ (s : Settings) (e : made ≡ Ok s) where
     said : (answer : Told ℕ) → answer ≡ sequence_answer s.height s.members [] largest_bound zs → answer ≡ told_by (first asked) (error (of_table N T []) zs)
     unfolding sequence_answer
     said answer a =
         subst (λ (s : Settings). answer ≡ sequence_answer s.height s.members [] largest_bound zs) (j.good s e).0 a
         ∙ ap (λ (o : Option Numbered). told_by o (error (of_table N T []) zs)) (passed j (unbounded_checks N T zs) s e)
 
-    pub unbounded-out : (r : Refusal) → refusal r ≡ sequence_answer s.height s.members [] largest_bound zs → Judges (Bad r) asked N T
+    pub unbounded-out : (r : Refusal) → refusal r ≡ sequence_answer s.height s.members [] largest_bound zs → Judges (Err r) asked N T
     unbounded-out r a =
-        judges-bad asked N T (Bad r) r refl (sym (refused-first asked (error (of_table N T []) zs) (number_of r.reason) r.place (sym (said (refusal r) a))))
+        judges-bad asked N T (Err r) r refl (sym (refused-first asked (error (of_table N T []) zs) (number_of r.reason) r.place (sym (said (refusal r) a))))
 
-    pub unbounded-in : (x : ℕ) → done x ≡ sequence_answer s.height s.members [] largest_bound zs → Judges (Good s) asked N T
+    pub unbounded-in : (x : ℕ) → done x ≡ sequence_answer s.height s.members [] largest_bound zs → Judges (Ok s) asked N T
     unbounded-in x a =
-        judges-good asked N T (Good s) s refl (j.good s e) (sym (told-done (first asked) (error (of_table N T []) zs) x (sym (said (done x) a))).0)
+        judges-good asked N T (Ok s) s refl (j.good s e) (sym (told-done (first asked) (error (of_table N T []) zs) x (sym (said (done x) a))).0)
 
 -- 1, 2, 3, 7, 6
-module _ (held : Held) (bound : ℕ) (zs : List ℤ) {made : Made} (j : Judges made (table_checks held) held.head.height held.head.members) where
-  pub bad : (r : Refusal) → made ≡ Bad r → Does (recounting held bound zs) (refusal r) tt
+module _ (held : Held) (bound : ℕ) (zs : List ℤ) {made : Result Settings Refusal} (j : Judges made (table_checks held) held.head.height held.head.members) where
+  pub bad : (r : Refusal) → made ≡ Err r → Does (recounting held bound zs) (refusal r) tt
   unfolding recounting
   bad r e = refuses (recounting held bound zs) r (stopped j (sequence_checks held.head.height held.head.members held.buffer bound zs) r e)
 
-  pub good : (s : Settings) → made ≡ Good s → (answer : Told ℕ) → answer ≡ sequence_answer s.height s.members held.buffer bound zs
+  pub good : (s : Settings) → made ≡ Ok s → (answer : Told ℕ) → answer ≡ sequence_answer s.height s.members held.buffer bound zs
       → Does (recounting held bound zs) answer tt
   unfolding recounting sequence_answer
   good s e answer a =
       let b = subst (λ (s : Settings). answer ≡ sequence_answer s.height s.members held.buffer bound zs) (j.good s e).0 a in
       let p = decided-passed (table_checks held) (sequence_checks held.head.height held.head.members held.buffer bound zs)
-      (error (of_table held.head.height held.head.members held.buffer) zs) (sym (ap said_made (sym e) ∙ j.says)) in
+      (error (of_table held.head.height held.head.members held.buffer) zs) (sym (ap said_by (sym e) ∙ j.says)) in
       record { tells = b ∙ sym p; leaves = refl }

@@ -9,9 +9,8 @@ use Rattle.plate.specs.Refusal.{Told, decided}
 use Rattle.plate.specs.declared.settings.Settings.{Settings}
 use Rattle.sequence.specs.Sequence.{starts, lowest_end}
 use Rattle.table.specs.Cells.{cell_from}
-use Rattle.recount.specs.declared.Layer.{Layer}
-use Rattle.recount.specs.declared.Layer.TheVariants.{Out, Error}
 use Rattle.recount.specs.Recount.{out_between, sequence_checks}
+use Rattle.std.specs.Prelude.{Option, None, Some}
 
 -- a layer that is by itself one of an admissible sequence, and its error
 pub record Counted (N T : ℕ) (table : List ℕ) (bound below above error : ℕ) : Type 0 where
@@ -22,9 +21,9 @@ pub record Counted (N T : ℕ) (table : List ℕ) (bound below above error : ℕ
   pub small : error < 4_294_967_296
 
 -- what a look at a layer tells
-abbrev pub Looked : Layer → ℕ → ℕ → List ℕ → ℕ → ℕ → ℕ → Type 0
-Looked Out N T table bound below above = out_between N T table bound below above ≡ true
-Looked (Error x) N T table bound below above = Counted N T table bound below above x
+abbrev pub Looked : Option ℕ → ℕ → ℕ → List ℕ → ℕ → ℕ → ℕ → Type 0
+Looked None N T table bound below above = out_between N T table bound below above ≡ true
+Looked (Some x) N T table bound below above = Counted N T table bound below above x
 
 -- a sequence that starts as an admissible one does: two boundaries at least, z0 a start, and z1 above 0
 pub record Started (s : Settings) (zs : List ℤ) : Type 0 where

@@ -13,17 +13,10 @@ ghost use Rattle.recount.specs.Recount.{unbounded_checks, recounting};
 
 use plate::head::Head;
 use plate::height::datum_of;
-use plate::refusal::{Answer, Reason, refusal_at};
-use plate::settings::{Made, Settings, is_allowed};
+use plate::refusal::{Reason, Refusal, refusal_at};
+use plate::settings::{Settings, is_allowed};
 use sheets::{is_start, row_of};
 use table::{cell_of, check_table};
-
-// A look at a layer by itself: no layer of an admissible sequence, or its error.
-#[derive(Clone, Copy)]
-pub enum Layer {
-    Out,
-    Error(u64),
-}
 
 // The datum height of boundary k.
 fn datum_at(sequence: &[i32], k: usize) -> usize
@@ -33,101 +26,105 @@ fn datum_at(sequence: &[i32], k: usize) -> usize
     datum_of(sequence[k])
 }
 
-// The layer from the datum height below up to above.
-fn look(table: &[u32], s: Settings, bound: u32, below: usize, above: usize) -> Layer
-    requires sound { Sound s }
-    requires bound { (32 < below + s.tmax) × (below < s.height + s.tmax + 32) }
-    ensures { Looked result s.height s.members table.now bound below above }
-{
-    if above <= below {
-        return Layer::Out;
-    }
-    let t = above - below;
-    if !is_allowed(s.members, t) {
-        return Layer::Out;
-    }
-    if s.height + s.tmax + 31 < above {
-        return Layer::Out;
-    }
-    let row = row_of(s.tmax as u32, below as u32);
-    let error = cell_of(table, s.tmax as u32, row as u32, t as u32);
-    if bound < error {
-        return Layer::Out;
-    }
-    Layer::Error(error as u64)
+// What a sequence is recounted over: a table in order, or none, its settings, and the bound on a layer's error.
+#[derive(Clone, Copy)]
+struct Bounded<'a> {
+    table: &'a [u32],
+    settings: Settings,
+    bound: u32,
+    ghost sound: { Sound settings },
 }
 
-// Where the start and z1 are in order: the layers from the lowest up, then z(n - 1) and the end. That z(n - 1) is below N is asked last, since it is a
-// fault of index n, and not of the first layer that starts at N or above.
-fn recount_layers(table: &[u32], s: Settings, bound: u32, sequence: &[i32]) -> Answer
-    requires sound { Sound s }
-    requires started { Started s sequence.now }
-    ensures { told result ≡ sequence_answer s.height s.members table.now bound sequence.now }
-{
-    let count = sequence.len() - 1;
-    let mut below = datum_at(sequence, 0);
-    let mut sum: u64 = 0;
-    let mut k: usize = 0;
-    while k < count {
-        let above = datum_at(sequence, k + 1);
-        let layer = look(table, s, bound, below, above);
-        let Layer::Error(error) = layer else {
-            return Answer::Refused(refusal_at(Reason::NotAdmissible, k + 1));
-        };
-        sum += error;
-        below = above;
-        k += 1;
+impl<'a> Bounded<'a> {
+    // The layer from the datum height below up to above.
+    fn look(&self, below: usize, above: usize) -> Option<u64>
+        requires { (32 < below + self.now.settings.tmax) × (below < self.now.settings.height + self.now.settings.tmax + 32) }
+        ensures { Looked result self.now.settings.height self.now.settings.members self.now.table.now self.now.bound below above }
+    {
+        let s = self.settings;
+        if above <= below {
+            return None;
+        }
+        let t = above - below;
+        if !is_allowed(s.members, t) {
+            return None;
+        }
+        if s.height + s.tmax + 31 < above {
+            return None;
+        }
+        let row = row_of(s.tmax as u32, below as u32);
+        let error = cell_of(self.table, s.tmax as u32, row as u32, t as u32);
+        if self.bound < error {
+            return None;
+        }
+        Some(u64::from(error))
     }
-    if s.height + 32 <= datum_at(sequence, count - 1) {
-        return Answer::Refused(refusal_at(Reason::NotAdmissible, count));
-    }
-    if below < s.height + 32 {
-        return Answer::Refused(refusal_at(Reason::NotAdmissible, count));
-    }
-    Answer::Done(sum)
-}
 
-// Where the table is in order: 13.
-fn recount_sequence(table: &[u32], s: Settings, bound: u32, sequence: &[i32]) -> Answer
-    requires { Sound s }
-    ensures { told result ≡ sequence_answer s.height s.members table.now bound sequence.now }
-{
-    if sequence.len() < 2 {
-        return Answer::Refused(refusal_at(Reason::NotAdmissible, 0));
+    // Where the start and z1 are in order: the layers from the lowest up, then z(n - 1) and the end. That z(n - 1) is below N is asked last,
+    // since it is a fault of index n, and not of the first layer that starts at N or above.
+    fn recount_layers(&self, sequence: &[i32]) -> Result<u64, Refusal>
+        requires { Started self.now.settings sequence.now }
+        ensures { told result ≡ sequence_answer self.now.settings.height self.now.settings.members self.now.table.now self.now.bound sequence.now }
+    {
+        let count = sequence.len() - 1;
+        let mut below = datum_at(sequence, 0);
+        let mut sum: u64 = 0;
+        for k in 0..count {
+            let above = datum_at(sequence, k + 1);
+            let Some(error) = self.look(below, above) else {
+                return Err(refusal_at(Reason::NotAdmissible, k + 1));
+            };
+            sum += error;
+            below = above;
+        }
+        let end = self.settings.height + 32;
+        if end <= datum_at(sequence, count - 1) || below < end {
+            return Err(refusal_at(Reason::NotAdmissible, count));
+        }
+        Ok(sum)
     }
-    let start = datum_at(sequence, 0);
-    if !is_start(s.tmax, start) {
-        return Answer::Refused(refusal_at(Reason::NotAdmissible, 0));
+
+    // Where the table is in order: 13.
+    fn recount_sequence(&self, sequence: &[i32]) -> Result<u64, Refusal>
+        ensures { told result ≡ sequence_answer self.now.settings.height self.now.settings.members self.now.table.now self.now.bound sequence.now }
+    {
+        if sequence.len() < 2 {
+            return Err(refusal_at(Reason::NotAdmissible, 0));
+        }
+        let start = datum_at(sequence, 0);
+        if !is_start(self.settings.tmax, start) {
+            return Err(refusal_at(Reason::NotAdmissible, 0));
+        }
+        if datum_at(sequence, 1) <= 32 {
+            return Err(refusal_at(Reason::NotAdmissible, 1));
+        }
+        self.recount_layers(sequence)
     }
-    if datum_at(sequence, 1) <= 32 {
-        return Answer::Refused(refusal_at(Reason::NotAdmissible, 1));
-    }
-    recount_layers(table, s, bound, sequence)
 }
 
 // A sequence by itself, without a bound: 1, 2, 13. There is no table, and so no layer has an error.
-pub fn check_sequence(height: u32, members: u32, sequence: &[i32]) -> Made
+pub fn check_sequence(height: u32, members: u32, sequence: &[i32]) -> Result<Settings, Refusal>
     ensures { Judges result (settings_checks height members ++ unbounded_checks height members sequence.now) height members }
 {
-    let made = Settings::new(height, members);
-    let Made::Good(s) = made else {
-        return made;
+    let settings = Settings::new(height, members)?;
+    let unbounded = Bounded {
+        table: &[],
+        settings,
+        bound: u32::MAX,
     };
-    let none: [u32; 0] = [];
-    let counted = recount_sequence(&none, s, 4294967295, sequence);
-    if let Answer::Refused(refusal) = counted {
-        return Made::Bad(refusal);
-    }
-    made
+    unbounded.recount_sequence(sequence)?;
+    Ok(settings)
 }
 
 // Document 01, 'Recount a sequence over a table': 1, 2, 3, 7, 6, 13.
-pub fn recount(table: &[u32], head: Head, bound: u32, sequence: &[i32]) -> Answer
+pub fn recount(table: &[u32], head: Head, bound: u32, sequence: &[i32]) -> Result<u64, Refusal>
     ensures { Does (recounting (held_in head table.now) bound sequence.now) (told result) tt }
 {
-    let made = check_table(table, head);
-    match made {
-        Made::Bad(refusal) => Answer::Refused(refusal),
-        Made::Good(s) => recount_sequence(table, s, bound, sequence),
-    }
+    let settings = check_table(table, head)?;
+    let bounded = Bounded {
+        table,
+        settings,
+        bound,
+    };
+    bounded.recount_sequence(sequence)
 }
