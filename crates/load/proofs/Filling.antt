@@ -37,7 +37,7 @@ use Rattle.job.proofs.Says.{SaysBy, read-says}
 use Rattle.job.proofs.Ordering.{counts, under, asks-for}
 use Rattle.load.specs.Load.{too_large, front_of}
 use Rattle.load.specs.Heeding.{Heeded, CanAdd, added_all, Cleared, filled_by}
-use Rattle.load.specs.declared.Heed.{Heed}
+use Rattle.std.specs.Prelude.{Ok, Err}
 use Rattle.load.specs.declared.Heed.TheVariants as heed
 use Rattle.load.proofs.Heeding.{means, ends, refuses}
 
@@ -64,9 +64,6 @@ module _ (most : ℕ) (s old : List ℕ) where
   long-by : (t : Told Finished) (columns : List Column) → length (table_by t columns old) ≡ length old
   long-by (done f) columns = length-table f.job.asked.height f.job.asked.members columns old
   long-by (refused number place) columns = refl
-
-  pub kept-long : {st : State} {at : ℕ} {table : List ℕ} → Filling st at table → length table ≡ length old
-  kept-long f = ap (λ (l : List ℕ). length l) f.table_is ∙ long-by (front_of most s) (columns_to f.reached)
 
   -- nothing was added yet
   clear-by : (t : Told Finished) → Cleared t old → old ≡ table_by t [] old
@@ -139,22 +136,22 @@ module _ (most : ℕ) (s old : List ℕ) where
         pub addable : CanAdd s st.head table m.told
         addable = addable-by m m.told (subst (λ (x : Moved). SaysBy s st at x x.told) (sym e) (read-says s st at).by)
 
-        module _ (h : Heed) (k : Heeded h most at m.told) where
-          pub filled : h ≡ heed.Onward → (new : List ℕ) → new ≡ added_all st.head (column_in s m.told) table → Filling m.state m.next new
-          filled o new g =
-              subst (λ (x : Moved). Filling x.state x.next new) (sym e)
-              (record {
-                reached = further f.reached (means most s f.reached m e h k heed.Onward o);
-                table_is =
-                    g
-                    ∙ ap (λ (x : Moved). added_all st.head (column_in s x.told) table) e
-                    ∙ added-by (read_record s st at) (read_record s st at).told (read-says s st at).by;
-              })
+        pub filled : Heeded (Ok heed.Onward) most at m.told → (new : List ℕ) → new ≡ added_all st.head (column_in s m.told) table → Filling m.state m.next new
+        filled k new g =
+            subst (λ (x : Moved). Filling x.state x.next new) (sym e)
+            (record {
+              reached = further f.reached (means most s f.reached m e (Ok heed.Onward) k);
+              table_is =
+                  g
+                  ∙ ap (λ (x : Moved). added_all st.head (column_in s x.told) table) e
+                  ∙ added-by (read_record s st at) (read_record s st at).told (read-says s st at).by;
+            })
 
-          pub all-filled : h ≡ heed.Ended → table ≡ filled_by old (front_of most s)
-          all-filled o =
-              let g = ends most s f.reached m e h k o in
-              f.table_is ∙ ap (λ (t : Told Finished). table_by t columns old) g ∙ ap (filled_by old) (sym g)
+        pub all-filled : Heeded (Ok heed.Ended) most at m.told → table ≡ filled_by old (front_of most s)
+        all-filled k =
+            let g = ends most s f.reached m e k in
+            f.table_is ∙ ap (λ (t : Told Finished). table_by t columns old) g ∙ ap (filled_by old) (sym g)
 
-          pub never : (r : Refusal) → h ≡ heed.Refused r → ⊥
-          never r o = unrefused r (refuses most s f.reached m e h k r o)
+        -- the job is in order, so that no record of it is refused
+        pub never : (r : Refusal) → Heeded (Err r) most at m.told → ⊥
+        never r k = unrefused r (refuses most s f.reached m e r k)

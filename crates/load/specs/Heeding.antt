@@ -1,5 +1,5 @@
 -- What the parts of reading a file into a table say to each other. Assumes nothing.
-use Rattle.std.specs.Prelude.{ℕ, ◌≤◌, ◌≡◌, List, [], ◌∷◌, length}
+use Rattle.std.specs.Prelude.{ℕ, ◌≤◌, ◌≡◌, List, [], ◌∷◌, length, Result, Ok, Err}
 use Rattle.std.proofs.Math.Option.{none}
 use Rattle.lists.specs.Checks.{first}
 use Rattle.paper.specs.Limits.{most_boundaries}
@@ -19,8 +19,8 @@ use Rattle.load.specs.Load.{too_large, load_of}
 use Rattle.load.specs.declared.Load.{Load}
 use Rattle.load.specs.declared.Heed.{Heed}
 use Rattle.load.specs.declared.Heed.TheVariants as heed
-use Rattle.load.specs.declared.Survey.{Survey}
-use Rattle.load.specs.declared.Survey.TheVariants as survey
+use Rattle.load.specs.declared.Front.{Front}
+use Rattle.plate.specs.declared.refusal.Refusal.{Refusal}
 
 -- ---- one record
 
@@ -33,10 +33,10 @@ Sane (done remark) = Unit {0}
 Sane (refused number place) = Unit {0}
 
 -- what a record means for the file that it stands in
-abbrev pub Heeded : Heed → ℕ → ℕ → Told What → Type 0
-Heeded heed.Onward most at t = Passes (too_large most) at t
-Heeded heed.Ended most at t = Ends t
-Heeded (heed.Refused r) most at t = Stops (too_large most) at t (number_of r.reason) r.place
+abbrev pub Heeded : Result Heed Refusal → ℕ → ℕ → Told What → Type 0
+Heeded (Ok heed.Onward) most at t = Passes (too_large most) at t
+Heeded (Ok heed.Ended) most at t = Ends t
+Heeded (Err r) most at t = Stops (too_large most) at t (number_of r.reason) r.place
 
 -- what was read can be added to a table, where it is a column
 abbrev pub CanAdd : List ℕ → Head → List ℕ → Told What → Type 0
@@ -59,9 +59,9 @@ pub record Seen (front : Told Finished) (load : Load) : Type 0 where
   pub is : front ≡ done found
   pub asks : load_of found.job ≡ load
 
-abbrev pub Surveyed : Survey → Told Finished → Type 0
-Surveyed (survey.Ended load past) front = (seen : Seen front load) × (seen.found.past ≡ past)
-Surveyed (survey.Refused r) front = front ≡ refusal r
+abbrev pub Surveyed : Result Front Refusal → Told Finished → Type 0
+Surveyed (Ok survey) front = (seen : Seen front survey.load) × (seen.found.past ≡ survey.past)
+Surveyed (Err r) front = front ≡ refusal r
 
 -- the job, whatever stands past it
 abbrev pub front_job : Told Finished → Told Job

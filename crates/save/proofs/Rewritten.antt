@@ -11,7 +11,7 @@ use lib.Dec.{leb, eqb}
 use lib.ListN.{length, drop, drop_of_length-le}
 use Rattle.lists.specs.Checks.{first}
 use Rattle.lists.proofs.Checks.{first-none, first-earlier}
-use Rattle.paper.specs.Layer.{Column, column_of}
+use Rattle.paper.specs.Layer.{column_of}
 use Rattle.plate.specs.Refusal.{Told, done, refused, Numbered, told_by}
 use Rattle.record.specs.Bytes.{Bytes, words}
 use Rattle.record.specs.Frame.{length_at, kind_at, body_at, past_at}

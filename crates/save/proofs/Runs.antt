@@ -1,6 +1,6 @@
 -- The columns of a run and its counts: the k-th stands behind as many boundaries as the counts before it say, and where the run is long enough
 -- the columns have as many boundaries together as the counts say. By induction on the counts. Assumes nothing.
-use mathlib.Core.Path.{◌≡◌, refl, sym, ap, ◌∙◌}
+use mathlib.Core.Path.{◌≡◌, refl, sym, ap, ◌∙◌, subst}
 use mathlib.Core.List.{List, [], ◌∷◌, ◌++◌, append-nil}
 use Prim.Native.Nat.{ℕ, zero, suc, ◌+◌, ◌-◌, ◌*◌, ◌≤◌, ◌<◌}
 use native.Mathlib.Nat.{le_of_suc-le-suc, not-suc-le-zero}
@@ -55,28 +55,39 @@ boundaries-are [] run h = refl
 boundaries-are (c ∷ counts) run h =
     omega (arith, length-take-le c run (omega arith), boundaries-are counts (drop c run) (omega (arith, length-drop c run)))
 
--- the k-th column, which begins at `start`: its boundaries are in the run, are as many as its count says, and the next column begins behind them
-pub record ColumnHere (counts run : List ℕ) (k start : ℕ) : Type 0 where
-  pub is : get_or (columns_in counts run) k (column_of []) ≡ column_of (take (start + get_or counts k 0 - start) (drop start run))
-  pub within : start + get_or counts k 0 ≤ length run
-  pub long : length (take (start + get_or counts k 0 - start) (drop start run)) ≡ get_or counts k 0
-  pub next : start + get_or counts k 0 ≡ total (take (k + 1) counts)
-  pub counted : start + get_or counts k 0 ≤ total counts
+-- the k-th column, which begins at `start` and has `count` boundaries: they are in the run, and the next column begins behind them
+pub record ColumnHere (counts run : List ℕ) (k start count : ℕ) : Type 0 where
+  pub is : get_or (columns_in counts run) k (column_of []) ≡ column_of (take (start + count - start) (drop start run))
+  pub within : start + count ≤ length run
+  pub long : length (take (start + count - start) (drop start run)) ≡ get_or counts k 0
+  pub next : start + count ≡ total (take (k + 1) counts)
+  pub counted : start + count ≤ total counts
 
-pub column-here : (counts run : List ℕ) (k start : ℕ) → k < length counts → start ≡ total (take k counts) → total counts ≤ length run → ColumnHere counts run k start
-column-here counts run k start l e h =
-    let count = get_or counts k 0 in
-    let more = total-more counts k l in
-    let suc-is : suc k ≡ k + 1 = omega arith in
-    let part : start + count - start ≡ count = omega arith in
-    let counted : start + count ≤ total counts = omega (arith, more, total-some counts (suc k)) in
-    record {
-      is = column-at counts run k l ∙ (λ i. column_of (take (sym part i) (drop (sym e i) run)));
-      within = omega arith;
-      long = length-take-le (start + count - start) (drop start run) (omega (arith, length-drop start run)) ∙ part;
-      next = ap (λ (n : ℕ). n + count) e ∙ sym more ∙ ap (λ (n : ℕ). total (take n counts)) suc-is;
-      counted = counted;
-    }
+pub column-here : (counts run : List ℕ) (k start count : ℕ) → k < length counts → start ≡ total (take k counts) → total counts ≤ length run → count ≡ get_or counts k 0 → ColumnHere counts run k start count
+column-here counts run k start count l e h same = subst (λ (n : ℕ). ColumnHere counts run k start n) (sym same) here
+  where
+    number : ℕ
+    number = get_or counts k 0
+
+    more : total (take (suc k) counts) ≡ total (take k counts) + number
+    more = total-more counts k l
+
+    part : start + number - start ≡ number
+    part = omega arith
+
+    counted : start + number ≤ total counts
+    counted = omega (arith, more, e, total-some counts (suc k))
+
+    here : ColumnHere counts run k start number
+    here =
+        let suc-is : suc k ≡ k + 1 = omega arith in
+        record {
+          is = column-at counts run k l ∙ (λ i. column_of (take (sym part i) (drop (sym e i) run)));
+          within = omega (arith, counted, h);
+          long = length-take-le (start + number - start) (drop start run) (omega (arith, counted, h, length-drop start run)) ∙ part;
+          next = ap (λ (n : ℕ). n + number) e ∙ sym more ∙ ap (λ (n : ℕ). total (take n counts)) suc-is;
+          counted = counted;
+        }
 
 -- ---- their records
 

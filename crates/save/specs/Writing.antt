@@ -1,6 +1,7 @@
 -- Document 02 a), 'Saving a plate': 'Refusals: 1, 2, 7, 4, 3 for a run shorter than the counts say, 5, 3 for the output; 4 and 5 at the
 -- column's number from 0', each judged over all columns before the next; and what is written. Assumes nothing.
 use Rattle.std.specs.Prelude.{ℕ, List, [], ◌∷◌, ◌++◌, ltb, length, get_or, drop}
+use Rattle.std.specs.Prelude.{cond, Option, Some, None}
 use Rattle.lists.specs.Checks.{Check}
 use Rattle.lists.specs.Search.{lowest}
 use Rattle.paper.specs.Limits.{most_columns}
@@ -20,6 +21,10 @@ first_wrong counts = lowest (λ k. wrong_count (get_or counts k 0)) (length coun
 -- the first column whose boundaries are out of order, and their number where there is none; the boundaries before a column's own are not looked at
 unfoldable pub first_disordered : ℕ → List Column → ℕ
 first_disordered N columns = lowest (λ k. disordered N (get_or columns k (column_of [])).boundaries) (length columns)
+
+-- a search over so many, as an option
+abbrev pub found_below : ℕ → ℕ → Option ℕ
+found_below k n = cond (ltb k n) (Some k) None
 
 -- 7, 4
 unfoldable pub count_checks : List ℕ → List (Check Numbered)

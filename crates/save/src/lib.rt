@@ -8,38 +8,34 @@ ghost use Rattle.lists.specs.Checks.{first};
 ghost use Rattle.paper.specs.Limits.{greatest_height, most_boundaries, most_columns};
 ghost use Rattle.paper.specs.Layer.{column_of};
 ghost use Rattle.plate.specs.Call.{Does};
-ghost use Rattle.plate.specs.Checked.{said_by};
-ghost use Rattle.plate.specs.Refusal.{told, decided};
+ghost use Rattle.plate.specs.Refusal.{said_by, told, decided};
 ghost use Rattle.plate.specs.Settings.{settings_checks};
 ghost use Rattle.job.specs.Written.{settings_record, column_record, column_records, end_record, written};
 ghost use Rattle.save.specs.Runs.{total, columns_in, file_size};
-ghost use Rattle.save.specs.Writing.{first_disordered, count_checks, run_checks, writing, size_answer};
+ghost use Rattle.save.specs.Writing.{found_below, first_disordered, count_checks, run_checks, writing, size_answer};
 
 use column::{check_column, is_wrong_count};
 use job::{Asked, Kind};
 use plate::head::Head;
-use plate::refusal::{Answer, Checked, Reason, refusal_at};
-use plate::settings::{Made, Settings};
+use plate::refusal::{Reason, Refusal, refusal_at};
+use plate::settings::Settings;
 use record::write_numbers;
 
 // 7 and 4, or how many boundaries the columns have together. The sum cannot overflow: a million counts of 16 bits are under 2^36.
-fn tally(counts: &[u16]) -> Answer
+fn tally(counts: &[u16]) -> Result<u64, Refusal>
     ensures { told result ≡ decided (count_checks counts.now) (total counts.now) }
 {
     if (Head::MOST_COLUMNS as usize) < counts.len() {
-        return Answer::Refused(refusal_at(Reason::Columns, 0));
+        return Err(refusal_at(Reason::Columns, 0));
     }
     let mut sum: u64 = 0;
-    let mut k: usize = 0;
-    while k < counts.len() {
-        let count = counts[k];
-        if is_wrong_count(count as usize) {
-            return Answer::Refused(refusal_at(Reason::BoundaryCount, k));
+    for (k, count) in counts.iter().enumerate() {
+        if is_wrong_count(usize::from(*count)) {
+            return Err(refusal_at(Reason::BoundaryCount, k));
         }
-        sum += count as u64;
-        k += 1;
+        sum += u64::from(*count);
     }
-    Answer::Done(sum)
+    Ok(sum)
 }
 
 // The length of the file of so many columns with so many boundaries together: 14 bytes of settings, 4 for each column, 2 for each boundary, and
@@ -53,34 +49,28 @@ fn size_of(columns: usize, together: u64) -> u64
 }
 
 // The length of the file of columns with these counts, which is the length to lend: 7, 4.
-pub fn job_size(counts: &[u16]) -> Answer
+pub fn job_size(counts: &[u16]) -> Result<u64, Refusal>
     ensures { told result ≡ size_answer counts.now }
 {
-    let tallied = tally(counts);
-    match tallied {
-        Answer::Refused(refusal) => Answer::Refused(refusal),
-        Answer::Done(together) => Answer::Done(size_of(counts.len(), together)),
-    }
+    let together = tally(counts)?;
+    Ok(size_of(counts.len(), together))
 }
 
-// The first column whose boundaries are out of order, or the number of columns.
-fn first_disordered(height: usize, run: &[u16], counts: &[u16]) -> usize
+// The first column whose boundaries are out of order.
+fn first_disordered(height: usize, run: &[u16], counts: &[u16]) -> Option<usize>
     requires none_value { none ≡ first (count_checks counts.now) }
     requires counts_in_bounds { total counts.now ≤ length run.now }
-    ensures { result ≡ first_disordered height (columns_in counts.now run.now) }
+    ensures { result ≡ found_below (first_disordered height (columns_in counts.now run.now)) (length counts.now) }
 {
     let mut start: usize = 0;
-    let mut k: usize = 0;
-    while k < counts.len() {
-        let end = start + counts[k] as usize;
-        let order = check_column(&run[start..end], height);
-        if let Checked::Refused(_) = order {
-            return k;
+    for (k, count) in counts.iter().enumerate() {
+        let end = start + usize::from(*count);
+        if check_column(&run[start..end], height).is_err() {
+            return Some(k);
         }
         start = end;
-        k += 1;
     }
-    k
+    None
 }
 
 // 3 for the run, 5, and 3 for the output, by the counts' sum and the file's length.
@@ -91,22 +81,21 @@ fn check_run(
     together: u64,
     size: u64,
     room: usize,
-) -> Checked
+) -> Result<(), Refusal>
     requires none_value { none ≡ first (count_checks counts.now) }
     requires together_value { (together ≡ total counts.now) × (size ≡ file_size counts.now) }
     ensures { said_by result ≡ first (run_checks height run.now counts.now room) }
 {
     if (run.len() as u64) < together {
-        return Checked::Refused(refusal_at(Reason::ShortBuffer, 1));
+        return Err(refusal_at(Reason::ShortBuffer, 1));
     }
-    let k = first_disordered(height, run, counts);
-    if k < counts.len() {
-        return Checked::Refused(refusal_at(Reason::Boundary, k));
+    if let Some(k) = first_disordered(height, run, counts) {
+        return Err(refusal_at(Reason::Boundary, k));
     }
     if (room as u64) < size {
-        return Checked::Refused(refusal_at(Reason::ShortBuffer, 2));
+        return Err(refusal_at(Reason::ShortBuffer, 2));
     }
-    Checked::Passed
+    Ok(())
 }
 
 // The record of a column.
@@ -129,13 +118,11 @@ fn write_columns(out: &mut [u8], at: usize, run: &[u16], counts: &[u16])
 {
     let mut start: usize = 0;
     let mut next = at;
-    let mut k: usize = 0;
-    while k < counts.len() {
-        let end = start + counts[k] as usize;
+    for count in counts {
+        let end = start + usize::from(*count);
         write_column(out, next, &run[start..end]);
-        next += 4 + 2 * (end - start);
+        next += 4 + 2 * usize::from(*count);
         start = end;
-        k += 1;
     }
 }
 
@@ -184,26 +171,29 @@ fn write_file(asked: Asked, run: &[u16], counts: &[u16], size: usize, out: &mut 
 }
 
 // 3 for the run, 5, and 3 for the output; or the file, and its length.
-fn write_run(asked: Asked, run: &[u16], counts: &[u16], together: u64, out: &mut [u8]) -> Answer
+fn write_run(
+    asked: Asked,
+    run: &[u16],
+    counts: &[u16],
+    together: u64,
+    out: &mut [u8],
+) -> Result<u64, Refusal>
     requires none_value { none ≡ first (settings_checks asked.height asked.members) }
     requires none_value_2 { none ≡ first (count_checks counts.now) }
     requires together_value { together ≡ total counts.now }
     ensures { Does (writing asked.height asked.members asked.bound run.now counts.now out.old) (told result) out.new }
 {
     let size = size_of(counts.len(), together);
-    let checked = check_run(
+    check_run(
         asked.height as usize,
         run,
         counts,
         together,
         size,
         out.len(),
-    );
-    if let Checked::Refused(refusal) = checked {
-        return Answer::Refused(refusal);
-    }
+    )?;
     write_file(asked, run, counts, size as usize, out);
-    Answer::Done(size)
+    Ok(size)
 }
 
 // Document 02 a), the writer of job files: 1, 2, 7, 4, 3, 5, 3.
@@ -214,23 +204,15 @@ pub fn write_job(
     boundaries: &[u16],
     counts: &[u16],
     out: &mut [u8],
-) -> Answer
+) -> Result<u64, Refusal>
     ensures { Does (writing height members bound boundaries.now counts.now out.old) (told result) out.new }
 {
-    let made = Settings::new(height, members);
-    if let Made::Bad(refusal) = made {
-        return Answer::Refused(refusal);
-    }
-    let tallied = tally(counts);
-    match tallied {
-        Answer::Refused(refusal) => Answer::Refused(refusal),
-        Answer::Done(together) => {
-            let asked = Asked {
-                height,
-                members,
-                bound,
-            };
-            write_run(asked, boundaries, counts, together, out)
-        }
-    }
+    Settings::new(height, members)?;
+    let together = tally(counts)?;
+    let asked = Asked {
+        height,
+        members,
+        bound,
+    };
+    write_run(asked, boundaries, counts, together, out)
 }

@@ -1,41 +1,18 @@
 -- Each record as it is stored: the numbers of two bytes that are written for it, and a row's cells behind them. Where the output has room they are
 -- the record's bytes. Assumes nothing.
-use mathlib.Core.Path.{◌≡◌, refl, sym, ap, ◌∙◌}
+use mathlib.Core.Path.{◌≡◌, refl, ap, ◌∙◌}
 use mathlib.Core.List.{List, [], ◌∷◌, ◌++◌}
-use Prim.Native.Nat.{ℕ, suc, ◌+◌, ◌*◌, ◌/◌, ◌%◌, ◌≤◌, ◌<◌}
+use Prim.Native.Nat.{ℕ, suc, ◌+◌, ◌*◌, ◌/◌, ◌%◌, ◌≤◌}
 use native.Mathlib.Omega.{arith}
-use lib.ListN.{length, get_or, set, take}
-use lib.Seq.{sets, length-take-le, take-suc}
+use lib.ListN.{length}
+use lib.Seq.{sets}
 use Rattle.plate.specs.declared.head.Head.{Head}
-use Rattle.record.specs.Written.{bytes16, bytes32, bytes_of, quad_bytes_of, framed, laid_at}
+use Rattle.record.specs.Written.{bytes16, bytes_of, quad_bytes_of, framed, laid_at}
 use Rattle.record.proofs.Spelled.{length-bytes_of, length-quad_bytes_of}
-use Rattle.record.proofs.Stores.{stored-behind, stored-then, laid, quads-append, opening-numbers}
+use Rattle.record.proofs.Stores.{stored-then, laid, opening-numbers}
 use Rattle.sent.specs.Kinds.{head_kind, row_kind, end_kind}
 use Rattle.sent.specs.Written.{head_record, end_record}
 use Rattle.sent.proofs.Laid.{length-head, length-end}
-
--- ---- cells, one more
-
-pub cell-stored : (out cells : List ℕ) (at i : ℕ) → i < length cells → get_or cells i 0 < 4_294_967_296
-    → set (set (set (set (sets out at (quad_bytes_of (take i cells))) (at + 4 * i) (get_or cells i 0 % 256)) (at + 4 * i + 1) (get_or cells i 0 / 256 % 256)) (at + 4 * i + 2) (get_or cells i 0 / 65536 % 256)) (at + 4 * i + 3)
-    (get_or cells i 0 / 65536 / 256)
-    ≡ sets out at (quad_bytes_of (take (i + 1) cells))
-unfolding quad_bytes_of bytes32 bytes16
-cell-stored out cells at i l small =
-    let n = get_or cells i 0 in
-    let before = quad_bytes_of (take i cells) in
-    let stored = sets out at before in
-    let long : length before ≡ 4 * i = omega (arith, length-quad_bytes_of (take i cells), length-take-le i cells (omega arith)) in
-    let place : at + 4 * i ≡ at + length before = omega arith in
-    let second : at + 4 * i + 1 ≡ suc (at + 4 * i) = omega arith in
-    let third : at + 4 * i + 2 ≡ suc (suc (at + 4 * i)) = omega arith in
-    let fourth : at + 4 * i + 3 ≡ suc (suc (suc (at + 4 * i))) = omega arith in
-    let high : n / 65536 / 256 ≡ n / 65536 / 256 % 256 = omega arith in
-    let count : suc i ≡ i + 1 = omega arith in
-    (λ j. set (set (set (set stored (at + 4 * i) (n % 256)) (second j) (n / 256 % 256)) (third j) (n / 65536 % 256)) (fourth j) (high j))
-    ∙ ap (λ (p : ℕ). sets stored p (quad_bytes_of (n ∷ []))) place
-    ∙ stored-behind out at before (quad_bytes_of (n ∷ []))
-    ∙ ap (sets out at) (sym (quads-append (take i cells) (n ∷ [])) ∙ ap quad_bytes_of (sym (take-suc cells i 0 l) ∙ ap (λ (k : ℕ). take k cells) count))
 
 -- ---- the head
 

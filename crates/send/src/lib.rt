@@ -18,30 +18,11 @@ ghost use Rattle.table.specs.Table.{table_checks};
 ghost use Rattle.send.specs.Sending.{sending};
 
 use plate::head::Head;
-use plate::refusal::{Answer, Reason, refusal_at};
-use plate::settings::{Made, Settings};
-use record::write_numbers;
+use plate::refusal::{Reason, Refusal, refusal_at};
+use plate::settings::Settings;
+use record::{store_all, write_numbers};
 use sent::{Kind, start_bits};
 use table::check_table;
-
-// Stores cells from a place on, four bytes each, the lowest first.
-fn store_cells(out: &mut [u8], at: usize, cells: &[u32])
-    requires { at + 4 * length cells.now ≤ length out.old }
-    ensures { out.new ≡ sets out.old at (quad_bytes_of cells.now) }
-{
-    let mut next = at;
-    let mut i: usize = 0;
-    while i < cells.len() {
-        let cell = cells[i];
-        let high = cell / 65536;
-        out[next] = (cell % 256) as u8;
-        out[next + 1] = (cell / 256 % 256) as u8;
-        out[next + 2] = (high % 256) as u8;
-        out[next + 3] = (high / 256) as u8;
-        next += 4;
-        i += 1;
-    }
-}
 
 // The record of a row, by the 16 bits of its start.
 fn write_row(out: &mut [u8], at: usize, start: u16, row: &[u32])
@@ -49,9 +30,9 @@ fn write_row(out: &mut [u8], at: usize, start: u16, row: &[u32])
     requires row_in_bounds { at + 6 + 4 * length row.now ≤ length out.old }
     ensures { out.new ≡ sets out.old at (framed row_kind (bytes16 start ++ quad_bytes_of row.now)) }
 {
-    let begun = [2 + 4 * row.len() as u16, Kind::ROW, start];
+    let begun = [2 + 4 * row.len() as u16, Kind::Row.number(), start];
     write_numbers(out, at, &begun);
-    store_cells(out, at + 6, row);
+    store_all(out, at + 6, row);
 }
 
 // The records of all rows.
@@ -63,13 +44,11 @@ fn write_rows(out: &mut [u8], table: &[u32], s: Settings)
 {
     let mut next: usize = 14;
     let mut base: usize = 0;
-    let mut row: usize = 0;
-    while row < s.rows {
+    for row in 0..s.rows {
         let end = base + s.tmax;
         write_row(out, next, start_bits(s.tmax, row), &table[base..end]);
         next += 6 + 4 * s.tmax;
         base = end;
-        row += 1;
     }
 }
 
@@ -80,7 +59,7 @@ fn write_head(out: &mut [u8], head: Head)
 {
     let numbers = [
         10,
-        Kind::HEAD,
+        Kind::Head.number(),
         head.height as u16,
         (head.members % 65536) as u16,
         (head.members / 65536) as u16,
@@ -95,7 +74,7 @@ fn write_end(out: &mut [u8], at: usize, rows: usize)
     requires { (rows < 65536) × (at + 6 ≤ length out.old) }
     ensures { out.new ≡ sets out.old at (end_record rows) }
 {
-    let numbers = [2, Kind::END, rows as u16];
+    let numbers = [2, Kind::End.number(), rows as u16];
     write_numbers(out, at, &numbers);
 }
 
@@ -120,26 +99,23 @@ fn size_of(s: Settings) -> usize
 }
 
 // The table is in order: 3 for the output; or the file, and its length.
-fn write_checked(table: &[u32], head: Head, s: Settings, out: &mut [u8]) -> Answer
+fn write_checked(table: &[u32], head: Head, s: Settings, out: &mut [u8]) -> Result<u64, Refusal>
     requires settings_for { SettingsFor head s }
     requires none_value { none ≡ first (table_checks (held_in head table.now)) }
     ensures { Does (sending (held_in head table.now) out.old) (told result) out.new }
 {
     let size = size_of(s);
     if out.len() < size {
-        return Answer::Refused(refusal_at(Reason::ShortBuffer, 2));
+        return Err(refusal_at(Reason::ShortBuffer, 2));
     }
     write_file(out, table, head, s, size);
-    Answer::Done(size as u64)
+    Ok(size as u64)
 }
 
 // Document 02 c), the writer of table files: 1, 2, 3 for the table, 7, 6, 3 for the output.
-pub fn write_table(table: &[u32], head: Head, out: &mut [u8]) -> Answer
+pub fn write_table(table: &[u32], head: Head, out: &mut [u8]) -> Result<u64, Refusal>
     ensures { Does (sending (held_in head table.now) out.old) (told result) out.new }
 {
-    let made = check_table(table, head);
-    match made {
-        Made::Bad(refusal) => Answer::Refused(refusal),
-        Made::Good(s) => write_checked(table, head, s, out),
-    }
+    let s = check_table(table, head)?;
+    write_checked(table, head, s, out)
 }
