@@ -1,17 +1,18 @@
 -- A lift is judged by the thickness that it is by. Where no usable thickness leads to its bits, the search ends above tmax, and what is above tmax is
 -- usable in no set. Where one does, it is usable; the first layer may then be so thick, and a later one if the layers below it still leave room.
 -- Layers that passed stay low. Assumes nothing.
-use mathlib.Core.Path.{◌≡◌, refl}
+use mathlib.Core.Path.{◌≡◌, refl, sym, ◌∙◌}
 use mathlib.Core.Bool.{Bool, true, false, cond}
 use mathlib.Core.List.{List}
 use mathlib.Core.Option.{none, some}
-use Prim.Native.Nat.{ℕ, ◌+◌, ◌≤◌, ◌<◌}
+use Prim.Native.Nat.{ℕ, ◌+◌, ◌-◌, ◌≤◌, ◌<◌}
+use Rattle.std.specs.Prelude.{Option, None, Some, MatchOption}
 use native.Mathlib.Omega.{arith}
 use borrow.Author.Tests.{lt-ltb, le-ltb, eq-eqb, ne_eqb}
 use lib.Dec.{eqb}
 use Rattle.lists.specs.Checks.{first}
 use Rattle.lists.specs.Search.{lowest}
-use Rattle.lists.proofs.Search.{lowest-passes}
+use Rattle.lists.proofs.Search.{lowest-passes, lowest-none, lowest-hit}
 use Rattle.paper.specs.Layer.{tmax}
 use Rattle.paper.proofs.Thicknesses.{and-true}
 use Rattle.record.specs.Bytes.{le32}
@@ -22,7 +23,7 @@ use Rattle.printed.specs.Tests.{may_lift}
 use Rattle.printed.proofs.Layers.{usable-to}
 use Rattle.orders.specs.Layer.{height_bits}
 use Rattle.orders.specs.File.{lift_place, grown, lifts_by, thickness_at, may_follow, lift_checks}
-use Rattle.orders.specs.Parts.{Standing}
+use Rattle.orders.specs.Parts.{Standing, IsThickness}
 use Rattle.orders.specs.declared.Stack.{Stack}
 
 above-tmax : (T : ℕ) (cures : List ℕ) (t : ℕ) → tmax T < t → usable T cures t ≡ false
@@ -31,6 +32,19 @@ above-tmax T cures t l = go (usable T cures t) refl
     go : (b : Bool) → usable T cures t ≡ b → b ≡ false
     go true e = absurd (omega (arith, usable-to T cures t e))
     go false e = refl
+
+-- the answer of a search through the thicknesses, where the test of a thickness is that of the number one less
+pub thickness-found : (p q : ℕ → Bool) → ((i : ℕ) → q (i + 1) ≡ p i) → (n : ℕ) (answer : Option ℕ)
+    → MatchOption answer ((k : ℕ) → 1 ≤ k → k < n + 1 → q k ≡ false) (λ t. (1 ≤ t) × (t < n + 1) × (q t ≡ true) × ((k : ℕ) → 1 ≤ k → k < t → q k ≡ false))
+    → IsThickness answer (lowest p n) n
+thickness-found p q same n None absent = lowest-none p n (λ i l. sym (same i) ∙ absent (i + 1) (omega arith) (omega arith))
+thickness-found p q same n (Some t) hits =
+    let e : t - 1 + 1 ≡ t = omega (arith, hits.0) in
+    let passes : q (t - 1 + 1) ≡ true = rw e hits.2 in
+    let hit =
+    lowest-hit p n (t - 1) (omega (arith, hits.0, hits.1)) (λ i l. sym (same i) ∙ hits.3 (i + 1) (omega arith) (omega (arith, hits.0, l))) (sym (same (t - 1)) ∙ passes)
+    in
+    (omega (arith, hit, hits.0), omega (arith, hit, hits.0, hits.1))
 
 module _ (N T step : ℕ) (cures file : List ℕ) (read : Stack) where
   -- what the search finds

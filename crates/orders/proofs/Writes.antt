@@ -1,6 +1,9 @@
 -- The ways out of writing: for each check that holds its refusal, and the file where none does. What was lent passes, so the settings do, and what a
 -- sequence is refused by behind them is 13. Assumes nothing.
-use mathlib.Core.Path.{◌≡◌, sym, ◌∙◌}
+use mathlib.Core.Path.{◌≡◌, refl, sym, ◌∙◌}
+use lib.Dec.{eqb}
+use Rattle.lists.specs.Search.{lowest}
+use Rattle.printed.specs.Possible.{cure_of}
 use mathlib.Core.List.{List, ◌++◌}
 use mathlib.Core.Option.{none, some}
 use Prim.Native.Nat.{ℕ, ◌+◌, ◌≤◌, ◌<◌}
@@ -9,7 +12,7 @@ use lib.IntN.{ℤ}
 use lib.ListN.{length}
 use Rattle.lists.specs.Checks.{Check, first}
 use Rattle.lists.proofs.Checks.{first-passed, first-stopped, first-none}
-use Rattle.paper.specs.Sequence.{count}
+use Rattle.paper.specs.Sequence.{count, thickness}
 use Rattle.plate.specs.Call.{Does}
 use Rattle.plate.specs.Refusal.{Told, refusal, Numbered, numbered}
 use Rattle.plate.specs.Settings.{settings_checks}
@@ -23,6 +26,10 @@ use Rattle.orders.specs.Writing.{first_uncured, file_wanted, filing, writing_ord
 -- ---- 18, and 3 for the output
 
 module _ (step : ℕ) (cures : List ℕ) (zs : List ℤ) (out : List ℕ) where
+  pub uncured-is : lowest (λ k. eqb (cure_of cures (thickness zs k)) 0) (count zs) ≡ first_uncured cures zs
+  unfolding first_uncured
+  uncured-is = refl
+
   pub uncured-stop : first_uncured cures zs < count zs → some (record { number = 18; place = first_uncured cures zs + 1 }) ≡ first (filing step cures zs out).checks
   unfolding filing file_wanted
   uncured-stop l = simp (lt-ltb (first_uncured cures zs) (count zs) l)

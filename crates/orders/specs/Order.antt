@@ -1,13 +1,10 @@
 -- Document 02 e), 'Orders are: lift to a height, cure for a time, or finish after a number of layers', and 'the order at a number from 0 (past the
 -- last, the finish)'. Assumes nothing.
 use Rattle.std.specs.Prelude.{ℕ, zero, suc, List, [], ◌∷◌}
-use Rattle.plate.specs.Refusal.{Told, done, refusal}
 use Rattle.printed.specs.Records.{Record, lift, cure, finish}
 use Rattle.orders.specs.Layer.{micrometres, seconds}
 use Rattle.orders.specs.declared.Order.{Order}
 use Rattle.orders.specs.declared.Order.TheVariants as order
-use Rattle.orders.specs.declared.Ordered.{Ordered}
-use Rattle.orders.specs.declared.Ordered.TheVariants.{Done, Refused}
 
 -- an order as it is handed out
 abbrev pub order_of : ℕ → Record → Order
@@ -21,8 +18,3 @@ record_at [] i = finish 0
 record_at (r ∷ []) i = r
 record_at (r ∷ (q ∷ rs)) zero = r
 record_at (r ∷ (q ∷ rs)) (suc i) = record_at (q ∷ rs) i
-
--- what a reader tells
-abbrev pub told_order : Ordered → Told Order
-told_order (Done o) = done o
-told_order (Refused r) = refusal r

@@ -8,12 +8,12 @@ use Rattle.paper.specs.Sequence.{◌!◌, count}
 use Rattle.plate.specs.Datum.{datum}
 use Rattle.plate.specs.Refusal.{Numbered, numbered}
 use Rattle.orders.specs.File.{grown}
-use Rattle.orders.specs.declared.Layer.{Layer}
-use Rattle.orders.specs.declared.Layer.TheVariants.{Thick, Refused}
 use Rattle.orders.specs.declared.Order.{Order}
 use Rattle.orders.specs.declared.Order.TheVariants as order
 use Rattle.orders.specs.declared.Printed.{Printed}
 use Rattle.orders.specs.declared.Stack.{Stack}
+use Rattle.plate.specs.declared.refusal.Refusal.{Refusal}
+use Rattle.std.specs.Prelude.{Result, Ok, Err, Option, MatchOption}
 
 -- no layers are higher together: N + 2·tmax - 2 at most
 abbrev pub most_rise : ℕ
@@ -34,9 +34,13 @@ pub record Standing (step : ℕ) (read : Stack) : Type 0 where
   pub empty : read.layers ≡ 0 → read.rise ≡ 0
 
 -- what a look at the next layer tells: its thickness, where these checks pass, or what the first of them that holds says
-abbrev pub Looked : Layer → List (Check Numbered) → ℕ → Stack → ℕ → Type 0
-Looked (Thick x) checks t read step = (none ≡ first checks) × (x ≡ t) × (1 ≤ x) × (x ≤ most_thickness) × Standing step (grown read x)
-Looked (Refused r) checks t read step = some (numbered r) ≡ first checks
+abbrev pub Looked : Result ℕ Refusal → List (Check Numbered) → ℕ → Stack → ℕ → Type 0
+Looked (Ok x) checks t read step = (none ≡ first checks) × (x ≡ t) × (1 ≤ x) × (x ≤ most_thickness) × Standing step (grown read x)
+Looked (Err r) checks t read step = some (numbered r) ≡ first checks
+
+-- what a search by the thickness less one, below tmax, answers as a thickness
+abbrev pub IsThickness : Option ℕ → ℕ → ℕ → Type 0
+IsThickness answer found tmax = MatchOption answer (found ≡ tmax) (λ t. (t ≡ found + 1) × (found < tmax))
 
 -- the order at a number, after a layer more: one of its two, or what was known of it before
 abbrev pub picked : Order → ℕ → ℕ → Printed → Order
