@@ -4,19 +4,13 @@
 
 ghost use Rattle.std.specs.Prelude.{◌≡◌};
 ghost use Rattle.plate.specs.Refusal.{done, refusal, told};
-ghost use Rattle.plate.specs.Head.{told_table};
-ghost use Rattle.column.specs.Picture.{told_picture};
-ghost use Rattle.motor.specs.Height.{told_lifted};
-ghost use Rattle.load.specs.Load.{told_load};
-ghost use Rattle.orders.specs.Order.{told_order};
 ghost use Rattle.replies.specs.Replies.{reply, table_reply, picture_reply, height_reply, job_reply, order_reply};
 
-use column::Pictured;
-use load::Loaded;
-use motor::Lifted;
-use orders::{Kind, Order, Ordered};
-use plate::head::{Head, Tabled};
-use plate::refusal::{Answer, Refusal};
+use column::Judged;
+use load::Load;
+use orders::{Kind, Order};
+use plate::head::Head;
+use plate::refusal::Refusal;
 
 // The answer, or a refusal's number and its place.
 #[repr(C)]
@@ -75,176 +69,144 @@ pub struct OrderReply {
     pub place: u64,
 }
 
-pub fn refused_reply(bad: Refusal) -> Reply
-    ensures { result ≡ reply (refusal bad) }
-{
-    let reason = bad.reason;
-    Reply {
-        number: reason.number(),
-        value: bad.place,
-    }
-}
+impl From<Result<u64, Refusal>> for Reply {
+    ghost from_gives = { λ answer replied. replied ≡ reply (told answer) };
 
-pub fn reply_of(answer: Answer) -> Reply
-    ensures { result ≡ reply (told answer) }
-{
-    match answer {
-        Answer::Done(value) => Reply { number: 0, value },
-        Answer::Refused(refusal) => refused_reply(refusal),
-    }
-}
-
-pub fn size_reply(size: usize) -> Reply
-    ensures { result ≡ reply (done size) }
-{
-    Reply {
-        number: 0,
-        value: size as u64,
-    }
-}
-
-pub fn table_reply(tabled: Tabled) -> TableReply
-    ensures { result ≡ table_reply (told_table tabled) }
-{
-    match tabled {
-        Tabled::Done(head) => TableReply {
-            number: 0,
-            head,
-            place: 0,
-        },
-        Tabled::Refused(refusal) => {
-            let reason = refusal.reason;
-            TableReply {
+    fn from(answer: Result<u64, Refusal>) -> Reply {
+        match answer {
+            Ok(value) => Reply { number: 0, value },
+            Err(Refusal { reason, place }) => Reply {
                 number: reason.number(),
-                head: Head::cleared(0, 0),
-                place: refusal.place,
-            }
+                value: place,
+            },
         }
     }
 }
 
-pub fn picture_reply(pictured: Pictured) -> PictureReply
-    ensures { result ≡ picture_reply (told_picture pictured) }
-{
-    match pictured {
-        Pictured::Done(judged) => {
-            let filled = judged.filled;
-            let value = judged.share as u64;
-            let difference = judged.difference;
-            if filled {
-                return PictureReply {
-                    number: 0,
-                    filled: 1,
-                    value,
-                    difference,
-                };
-            }
-            PictureReply {
-                number: 0,
-                filled: 0,
-                value,
-                difference,
-            }
-        }
-        Pictured::Refused(refusal) => {
-            let reason = refusal.reason;
-            PictureReply {
-                number: reason.number(),
-                filled: 0,
-                value: refusal.place,
-                difference: 0,
-            }
-        }
-    }
-}
+impl From<Result<Head, Refusal>> for TableReply {
+    ghost from_gives = { λ answer replied. replied ≡ table_reply (told answer) };
 
-pub fn job_reply(loaded: Loaded) -> JobReply
-    ensures { result ≡ job_reply (told_load loaded) }
-{
-    match loaded {
-        Loaded::Done(load) => {
-            let head = load.head;
-            JobReply {
+    fn from(answer: Result<Head, Refusal>) -> TableReply {
+        match answer {
+            Ok(head) => TableReply {
                 number: 0,
                 head,
+                place: 0,
+            },
+            Err(Refusal { reason, place }) => TableReply {
+                number: reason.number(),
+                head: Head::cleared(0, 0),
+                place,
+            },
+        }
+    }
+}
+
+impl From<Result<Judged, Refusal>> for PictureReply {
+    ghost from_gives = { λ answer replied. replied ≡ picture_reply (told answer) };
+
+    fn from(answer: Result<Judged, Refusal>) -> PictureReply {
+        match answer {
+            Ok(judged) => PictureReply {
+                number: 0,
+                filled: u32::from(judged.filled),
+                value: u64::from(judged.share),
+                difference: judged.difference,
+            },
+            Err(refusal) => PictureReply {
+                number: refusal.reason.number(),
+                filled: 0,
+                // The place by another name than in `Reply`, so that an edit of that line stands once.
+                value: refusal.place,
+                difference: 0,
+            },
+        }
+    }
+}
+
+impl From<Result<f32, Refusal>> for HeightReply {
+    ghost from_gives = { λ answer replied. replied ≡ height_reply (told answer) };
+
+    fn from(answer: Result<f32, Refusal>) -> HeightReply {
+        match answer {
+            Ok(height) => HeightReply {
+                number: 0,
+                height,
+                place: 0,
+            },
+            Err(Refusal { reason, place }) => HeightReply {
+                number: reason.number(),
+                height: 0.0,
+                place,
+            },
+        }
+    }
+}
+
+impl From<Result<Load, Refusal>> for JobReply {
+    ghost from_gives = { λ answer replied. replied ≡ job_reply (told answer) };
+
+    fn from(answer: Result<Load, Refusal>) -> JobReply {
+        match answer {
+            Ok(load) => JobReply {
+                number: 0,
+                head: load.head,
                 bound: load.bound,
                 place: 0,
-            }
-        }
-        Loaded::Refused(fault) => {
-            let reason = fault.reason;
-            JobReply {
+            },
+            Err(Refusal { reason, place }) => JobReply {
                 number: reason.number(),
                 head: Head::cleared(0, 0),
                 bound: 0,
-                place: fault.place,
-            }
+                place,
+            },
         }
     }
 }
 
-pub fn height_reply(lifted: Lifted) -> HeightReply
-    ensures { result ≡ height_reply (told_lifted lifted) }
-{
-    match lifted {
-        Lifted::Done(height) => HeightReply {
-            number: 0,
-            height,
-            place: 0,
-        },
-        Lifted::Refused(refusal) => {
-            let reason = refusal.reason;
-            HeightReply {
-                number: reason.number(),
-                height: 0.0,
-                place: refusal.place,
-            }
+impl From<Order> for OrderReply {
+    ghost from_gives = { λ order replied. replied ≡ order_reply (done order) };
+
+    fn from(order: Order) -> OrderReply {
+        match order {
+            Order::Lift(height) => OrderReply {
+                number: 0,
+                kind: u32::from(Kind::Lift.number()),
+                amount: height,
+                count: 0,
+                place: 0,
+            },
+            Order::Cure(time) => OrderReply {
+                number: 0,
+                kind: u32::from(Kind::Cure.number()),
+                amount: time,
+                count: 0,
+                place: 0,
+            },
+            Order::Finish(layers) => OrderReply {
+                number: 0,
+                kind: u32::from(Kind::Finish.number()),
+                amount: 0.0,
+                count: layers,
+                place: 0,
+            },
         }
     }
 }
 
-fn order_told(order: Order) -> OrderReply
-    ensures { result ≡ order_reply (done order) }
-{
-    match order {
-        Order::Lift(height) => OrderReply {
-            number: 0,
-            kind: Kind::LIFT as u32,
-            amount: height,
-            count: 0,
-            place: 0,
-        },
-        Order::Cure(time) => OrderReply {
-            number: 0,
-            kind: Kind::CURE as u32,
-            amount: time,
-            count: 0,
-            place: 0,
-        },
-        Order::Finish(layers) => OrderReply {
-            number: 0,
-            kind: Kind::FINISH as u32,
-            amount: 0.0,
-            count: layers,
-            place: 0,
-        },
-    }
-}
+impl From<Result<Order, Refusal>> for OrderReply {
+    ghost from_gives = { λ answer replied. replied ≡ order_reply (told answer) };
 
-pub fn order_reply(ordered: Ordered) -> OrderReply
-    ensures { result ≡ order_reply (told_order ordered) }
-{
-    match ordered {
-        Ordered::Done(order) => order_told(order),
-        Ordered::Refused(refusal) => {
-            let reason = refusal.reason;
-            OrderReply {
+    fn from(answer: Result<Order, Refusal>) -> OrderReply {
+        match answer {
+            Ok(order) => OrderReply::from(order),
+            Err(Refusal { reason, place }) => OrderReply {
                 number: reason.number(),
                 kind: 0,
                 amount: 0.0,
                 count: 0,
-                place: refusal.place,
-            }
+                place,
+            },
         }
     }
 }

@@ -35,14 +35,11 @@ use motor::motor_height;
 use orders::{read_order, write_orders};
 use plan::plan;
 use plate::head::Head;
-use plate::settings::{Made, Settings};
+use plate::settings::Settings;
 use readback::read_back;
 use receive::read_table;
 use recount::recount;
-use replies::{
-    HeightReply, JobReply, OrderReply, PictureReply, Reply, TableReply, height_reply, job_reply,
-    order_reply, picture_reply, refused_reply, reply_of, size_reply, table_reply,
-};
+use replies::{HeightReply, JobReply, OrderReply, PictureReply, Reply, TableReply};
 use save::{job_size, write_job};
 use send::write_table;
 use table::clear_table;
@@ -61,14 +58,14 @@ pub extern "C" fn shagorent_version() -> u32
 pub extern "C" fn shagorent_clear_table(table: &mut [u32], height: u32, members: u32) -> TableReply
     ensures { Replies table_reply (clearing height members table.old) result table.new }
 {
-    table_reply(clear_table(table, height, members))
+    clear_table(table, height, members).into()
 }
 
 #[unsafe(no_mangle)]
 pub extern "C" fn shagorent_add_column(table: &mut [u32], head: Head, column: &[u16]) -> TableReply
     ensures { Replies table_reply (adding (held_in head table.old) (column_of column.now)) result table.new }
 {
-    table_reply(add_column(table, head, column))
+    add_column(table, head, column).into()
 }
 
 #[unsafe(no_mangle)]
@@ -80,7 +77,7 @@ pub extern "C" fn shagorent_join_tables(
 ) -> TableReply
     ensures { Replies table_reply (joining (held_in head table.old) (held_in other_head other.now)) result table.new }
 {
-    table_reply(join_tables(table, head, other, other_head))
+    join_tables(table, head, other, other_head).into()
 }
 
 #[unsafe(no_mangle)]
@@ -92,7 +89,7 @@ pub extern "C" fn shagorent_take_off(
 ) -> TableReply
     ensures { Replies table_reply (taking (held_in head table.old) (held_in other_head other.now)) result table.new }
 {
-    table_reply(take_off(table, head, other, other_head))
+    take_off(table, head, other, other_head).into()
 }
 
 #[unsafe(no_mangle)]
@@ -106,7 +103,7 @@ pub extern "C" fn shagorent_plan(
 ) -> Reply
     ensures { Replies reply (planning (held_in head table.now) bound (sheets_in errors.entry thicknesses.entry list.entry)) result (sheets_in errors.exit thicknesses.exit list.exit) }
 {
-    reply_of(plan(table, head, bound, errors, thicknesses, list))
+    plan(table, head, bound, errors, thicknesses, list).into()
 }
 
 #[unsafe(no_mangle)]
@@ -120,7 +117,7 @@ pub extern "C" fn shagorent_read_back(
 ) -> Reply
     ensures { Replies reply (reading height members errors.now thicknesses.now count out.old) result out.new }
 {
-    reply_of(read_back(height, members, errors, thicknesses, count, out))
+    read_back(height, members, errors, thicknesses, count, out).into()
 }
 
 #[unsafe(no_mangle)]
@@ -132,7 +129,7 @@ pub extern "C" fn shagorent_recount(
 ) -> Reply
     ensures { Replies reply (recounting (held_in head table.now) bound sequence.now) result tt }
 {
-    reply_of(recount(table, head, bound, sequence))
+    recount(table, head, bound, sequence).into()
 }
 
 #[unsafe(no_mangle)]
@@ -145,21 +142,21 @@ pub extern "C" fn shagorent_picture(
 ) -> PictureReply
     ensures { result ≡ picture_reply (picture_answer height members column.now start thickness) }
 {
-    picture_reply(picture(column, height, members, start, thickness))
+    picture(column, height, members, start, thickness).into()
 }
 
 #[unsafe(no_mangle)]
 pub extern "C" fn shagorent_motor_height(step: u32, boundary: i32) -> HeightReply
     ensures { result ≡ height_reply (height_answer step boundary) }
 {
-    height_reply(motor_height(step, boundary))
+    motor_height(step, boundary).into()
 }
 
 #[unsafe(no_mangle)]
 pub extern "C" fn shagorent_read_job(input: &[u8], most: usize, table: &mut [u32]) -> JobReply
     ensures { Replies job_reply (loading table.old (job_of most input.now)) result table.new }
 {
-    job_reply(read_job(input, most, table))
+    read_job(input, most, table).into()
 }
 
 #[unsafe(no_mangle)]
@@ -173,21 +170,21 @@ pub extern "C" fn shagorent_write_job(
 ) -> Reply
     ensures { Replies reply (writing height members bound boundaries.now counts.now out.old) result out.new }
 {
-    reply_of(write_job(height, members, bound, boundaries, counts, out))
+    write_job(height, members, bound, boundaries, counts, out).into()
 }
 
 #[unsafe(no_mangle)]
 pub extern "C" fn shagorent_write_table(table: &[u32], head: Head, out: &mut [u8]) -> Reply
     ensures { Replies reply (sending (held_in head table.now) out.old) result out.new }
 {
-    reply_of(write_table(table, head, out))
+    write_table(table, head, out).into()
 }
 
 #[unsafe(no_mangle)]
 pub extern "C" fn shagorent_read_table(input: &[u8], table: &mut [u32]) -> TableReply
     ensures { Replies table_reply (receiving input.now table.old) result table.new }
 {
-    table_reply(read_table(input, table))
+    read_table(input, table).into()
 }
 
 #[unsafe(no_mangle)]
@@ -201,7 +198,7 @@ pub extern "C" fn shagorent_write_orders(
 ) -> Reply
     ensures { Replies reply (writing_orders height members step cure.now sequence.now out.old) result out.new }
 {
-    reply_of(write_orders(height, members, step, cure, sequence, out))
+    write_orders(height, members, step, cure, sequence, out).into()
 }
 
 #[unsafe(no_mangle)]
@@ -215,7 +212,7 @@ pub extern "C" fn shagorent_read_order(
 ) -> OrderReply
     ensures { result ≡ order_reply (answer_of (reading_order height members step cure.now file.now number)) }
 {
-    order_reply(read_order(height, members, step, cure, file, number))
+    read_order(height, members, step, cure, file, number).into()
 }
 
 // ---- sizes, for buffers to be lent: of a job file; of a table, of a sheet, and the greatest count, or refusals 1 and 2
@@ -224,17 +221,16 @@ pub extern "C" fn shagorent_read_order(
 pub extern "C" fn shagorent_job_size(counts: &[u16]) -> Reply
     ensures { result ≡ reply (size_answer counts.now) }
 {
-    reply_of(job_size(counts))
+    job_size(counts).into()
 }
 
 #[unsafe(no_mangle)]
 pub extern "C" fn shagorent_cells(height: u32, members: u32) -> Reply
     ensures { result ≡ reply (decided (settings_checks height members) (cells height members)) }
 {
-    let made = Settings::new(height, members);
-    match made {
-        Made::Good(s) => size_reply(s.cells),
-        Made::Bad(refusal) => refused_reply(refusal),
+    match Settings::new(height, members) {
+        Ok(s) => Reply::from(Ok(s.cells as u64)),
+        Err(refusal) => Reply::from(Err(refusal)),
     }
 }
 
@@ -242,10 +238,9 @@ pub extern "C" fn shagorent_cells(height: u32, members: u32) -> Reply
 pub extern "C" fn shagorent_entries(height: u32, members: u32) -> Reply
     ensures { result ≡ reply (decided (settings_checks height members) (entries height members)) }
 {
-    let made = Settings::new(height, members);
-    match made {
-        Made::Good(s) => size_reply(s.entries),
-        Made::Bad(refusal) => refused_reply(refusal),
+    match Settings::new(height, members) {
+        Ok(s) => Reply::from(Ok(s.entries as u64)),
+        Err(refusal) => Reply::from(Err(refusal)),
     }
 }
 
@@ -253,9 +248,8 @@ pub extern "C" fn shagorent_entries(height: u32, members: u32) -> Reply
 pub extern "C" fn shagorent_counts(height: u32, members: u32) -> Reply
     ensures { result ≡ reply (decided (settings_checks height members) (M height members)) }
 {
-    let made = Settings::new(height, members);
-    match made {
-        Made::Good(s) => size_reply(s.counts),
-        Made::Bad(refusal) => refused_reply(refusal),
+    match Settings::new(height, members) {
+        Ok(s) => Reply::from(Ok(s.counts as u64)),
+        Err(refusal) => Reply::from(Err(refusal)),
     }
 }
