@@ -6,7 +6,6 @@ use mathlib.Core.Path.{◌≡◌, refl, sym, ap, ap₂, ◌∙◌, subst}
 use mathlib.Core.Logic.{◌⊎◌, inl, inr}
 use mathlib.Core.Bool.{Bool, true, false, not, ◌||◌}
 use mathlib.Core.List.{List, [], ◌∷◌}
-use mathlib.Core.Option.{none}
 use Prim.Native.Nat.{ℕ, zero, suc, ◌+◌, ◌-◌, ◌≤◌, ◌<◌}
 use native.Mathlib.Decide.{dec_lt}
 use native.Mathlib.Numerals.{add-one}
@@ -16,7 +15,6 @@ use lib.Dec.{leb, ltb}
 use lib.IntN.{ℤ, pos, neg_ℤ}
 use lib.ListN.{length}
 use lib.Signed.{◌≤ℤ◌, ◌<ℤ◌}
-use Rattle.lists.specs.Search.{lowest}
 use Rattle.lists.proofs.Checks.{or-false}
 use Rattle.lists.proofs.Search.{lowest-none, lowest-before, lowest-passes}
 use Rattle.paper.specs.Layer as paper

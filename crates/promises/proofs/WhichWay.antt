@@ -5,7 +5,6 @@ use mathlib.Core.Logic.{◌↔◌}
 use mathlib.Core.Bool.{Bool}
 use mathlib.Core.List.{List, ◌++◌}
 use Prim.Native.Nat.{ℕ}
-use Rattle.lists.specs.Checks.{first}
 use Rattle.lists.proofs.Checks.{first-exactly}
 use Rattle.plate.specs.Refusal.{Told, refused}
 use Rattle.record.specs.Frame.{kind_at}

@@ -62,7 +62,7 @@ module _ (N T bound : ℕ) (run counts out : List ℕ) where
     unfolding run_checks first_disordered column_checks
     column-is k l =
         let few = length-columns_in counts run in
-        let here = column-here counts run k _ (omega arith) refl enough in
+        let here = column-here counts run k _ _ (omega arith) refl enough refl in
         let right = ap wrong_count (ap (λ (c : Column). length c.boundaries) here.is ∙ here.long) ∙ (counts-right counts (sym p.counted)).right k (omega arith) in
         let q = (first-none (run_checks N run counts (length out))).0 p.ran in
         let ordered = lowest-before (λ j. disordered N (get_or (columns_in counts run) j (column_of [])).boundaries) (length (columns_in counts run)) k

@@ -13,7 +13,7 @@ use Rattle.record.specs.Frame.{left, length_at, kind_at, body_at}
 use Rattle.job.specs.State.{start_state}
 use Rattle.job.specs.Kinds as job
 use Rattle.job.specs.Kinds.{allowed_here}
-use Rattle.job.specs.Record.{What, Moved, moved, reading_at, columns_at, body_checks, record_kind, read_record}
+use Rattle.job.specs.Record.{Moved, moved, reading_at, columns_at, body_checks, record_kind, read_record}
 use Rattle.job.specs.File.{Job, Finished, Asking, job_over, endless}
 use Rattle.job.specs.declared.Kind.{Kind}
 use Rattle.job.specs.declared.Kind.TheVariants as kind

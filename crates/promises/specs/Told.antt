@@ -1,20 +1,10 @@
 -- What a call tells says which answer it was, a refused call has written nothing, and a refused read has moved nothing: as statements.
 -- Assumes nothing.
-use Rattle.std.specs.Prelude.{ℕ, ◌≡◌, List, ℤ}
+use Rattle.std.specs.Prelude.{ℕ, ◌≡◌, List, ℤ, Float, Result, ⊤}
 use Rattle.paper.specs.Layer.{Column}
 use Rattle.plate.specs.Call.{Call, answer_of, left_by}
-use Rattle.plate.specs.Checked.{said_by}
-use Rattle.plate.specs.Head.{Held, told_table}
-use Rattle.plate.specs.Refusal.{Told, refused, told}
-use Rattle.plate.specs.Settings.{told_made}
-use Rattle.plate.specs.declared.head.Tabled.{Tabled}
-use Rattle.plate.specs.declared.refusal.Answer.{Answer}
-use Rattle.plate.specs.declared.refusal.Checked.{Checked}
-use Rattle.plate.specs.declared.settings.Made.{Made}
-use Rattle.column.specs.Picture.{told_picture}
-use Rattle.column.specs.declared.Pictured.{Pictured}
-use Rattle.motor.specs.Height.{told_lifted}
-use Rattle.motor.specs.declared.Lifted.{Lifted}
+use Rattle.plate.specs.Refusal.{said_by, Told, refused, told}
+use Rattle.plate.specs.Head.{Held}
 use Rattle.table.specs.Table.{clearing}
 use Rattle.adding.specs.Adding.{adding}
 use Rattle.joining.specs.Joining.{joining, taking}
@@ -24,26 +14,29 @@ use Rattle.job.specs.Record.{read_record, told_step}
 use Rattle.job.specs.File.{Job}
 use Rattle.job.specs.declared.State.{State}
 use Rattle.job.specs.declared.Step.{Step}
-use Rattle.load.specs.Load.{told_load, loading}
-use Rattle.load.specs.declared.Loaded.{Loaded}
+use Rattle.load.specs.Load.{loading}
 use Rattle.save.specs.Writing.{writing}
 use Rattle.send.specs.Sending.{sending}
 use Rattle.receive.specs.Receiving.{receiving}
-use Rattle.orders.specs.Order.{told_order}
 use Rattle.orders.specs.Writing.{writing_orders}
-use Rattle.orders.specs.declared.Ordered.{Ordered}
+use Rattle.plate.specs.declared.refusal.Refusal.{Refusal}
+use Rattle.plate.specs.declared.settings.Settings.{Settings}
+use Rattle.plate.specs.declared.head.Head.{Head}
+use Rattle.column.specs.declared.Judged.{Judged}
+use Rattle.load.specs.declared.Load.{Load}
+use Rattle.orders.specs.declared.Order.{Order}
 
 -- an answer is the only one that tells what it tells, so a contract about what is told leaves one answer
 pub record Only : Type 0 where
-  pub number : (a b : Answer) → told a ≡ told b → a ≡ b
-  pub table : (a b : Tabled) → told_table a ≡ told_table b → a ≡ b
-  pub picture : (a b : Pictured) → told_picture a ≡ told_picture b → a ≡ b
-  pub height : (a b : Lifted) → told_lifted a ≡ told_lifted b → a ≡ b
-  pub checks : (a b : Checked) → said_by a ≡ said_by b → a ≡ b
-  pub settings : (a b : Made) → told_made a ≡ told_made b → a ≡ b
+  pub number : (a b : Result ℕ Refusal) → told a ≡ told b → a ≡ b
+  pub table : (a b : Result Head Refusal) → told a ≡ told b → a ≡ b
+  pub picture : (a b : Result Judged Refusal) → told a ≡ told b → a ≡ b
+  pub height : (a b : Result Float Refusal) → told a ≡ told b → a ≡ b
+  pub checks : (a b : Result ⊤ Refusal) → said_by a ≡ said_by b → a ≡ b
+  pub settings : (a b : Result Settings Refusal) → told a ≡ told b → a ≡ b
   pub step : (a b : Step) → told_step a ≡ told_step b → a ≡ b
-  pub file : (a b : Loaded) → told_load a ≡ told_load b → a ≡ b
-  pub order : (a b : Ordered) → told_order a ≡ told_order b → a ≡ b
+  pub file : (a b : Result Load Refusal) → told a ≡ told b → a ≡ b
+  pub order : (a b : Result Order Refusal) → told a ≡ told b → a ≡ b
 
 -- a refused call leaves what the memory held
 abbrev pub Keeps : {X B : Type 0} → Call X B → Type 0
