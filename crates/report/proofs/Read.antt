@@ -5,21 +5,20 @@ use Prim.Native.Nat.{ℕ, ◌+◌}
 use lib.IntN.{ℤ}
 use lib.ListN.{take}
 use Rattle.plate.specs.Refusal.{told}
-use Rattle.plate.specs.declared.refusal.Answer.{Answer}
-use Rattle.plate.specs.declared.refusal.Answer.TheVariants.{Done, Refused}
 use Rattle.plate.specs.declared.refusal.Refusal.{Refusal}
 use Rattle.plate.specs.Call.{Does}
 use Rattle.readback.specs.Reading.{reading}
 use Rattle.report.specs.Lines.{none_line, sequence_line}
 use Rattle.report.specs.Work.{read_line, sheet_line}
+use Rattle.std.specs.Prelude.{Result, Ok, Err}
 
-module _ (N T : ℕ) (errors thicknesses : List ℕ) (n : ℕ) (old new : List ℤ) (r : Answer) (d : Does (reading N T errors thicknesses n old) (told r) new) where
-  by_answer : (x : Answer) → r ≡ x → read_line n (told x) new ≡ sheet_line N T errors thicknesses old n
+module _ (N T : ℕ) (errors thicknesses : List ℕ) (n : ℕ) (old new : List ℤ) (r : Result ℕ Refusal) (d : Does (reading N T errors thicknesses n old) (told r) new) where
+  by_answer : (x : Result ℕ Refusal) → r ≡ x → read_line n (told x) new ≡ sheet_line N T errors thicknesses old n
   unfolding sheet_line
   by_answer x e = ap₂ (read_line n) (ap told (sym e) ∙ d.tells) d.leaves
 
-  pub read_done : (e : ℕ) → r ≡ Done e → sequence_line n e (take (n + 1) new) ≡ sheet_line N T errors thicknesses old n
-  read_done e f = by_answer (Done e) f
+  pub read_done : (e : ℕ) → r ≡ Ok e → sequence_line n e (take (n + 1) new) ≡ sheet_line N T errors thicknesses old n
+  read_done e f = by_answer (Ok e) f
 
-  pub read_none : (refusal : Refusal) → r ≡ Refused refusal → none_line n ≡ sheet_line N T errors thicknesses old n
-  read_none refusal f = by_answer (Refused refusal) f
+  pub read_none : (refusal : Refusal) → r ≡ Err refusal → none_line n ≡ sheet_line N T errors thicknesses old n
+  read_none refusal f = by_answer (Err refusal) f

@@ -4,7 +4,7 @@ use mathlib.Core.Path.{◌≡◌, refl, ap, ap₂, ◌∙◌}
 use mathlib.Core.Bool.{Bool, true, false, cond}
 use mathlib.Core.List.{List, [], ◌∷◌, ◌++◌}
 use Prim.Native.Nat.{ℕ, zero, suc, ◌+◌, ◌-◌, ◌/◌, ◌%◌, ◌^◌, ◌≤◌, ◌<◌}
-use native.Mathlib.Nat.{pow-suc}
+use native.Mathlib.Nat.{pow-suc, one-le-pow, pow-le-pow_right}
 use native.Mathlib.Omega.{arith}
 use borrow.Author.Tests.{lt-ltb, ltb-true, ltb-false}
 use lib.Dec.{ltb}
@@ -13,10 +13,6 @@ use Rattle.text.specs.Numbers.{spelled, decimal}
 
 glyph-is : (d : ℕ) → d < 10 → hex_digit_ascii d ≡ 48 + d
 glyph-is d l = simp (lt-ltb d 10 l)
-
-some-power : (k : ℕ) → 1 ≤ 10 ^ k
-some-power zero = omega arith
-some-power (suc k) = let e = pow-suc 10 k in let p = some-power k in omega arith
 
 spelled_is : (k f n : ℕ) → k ≤ f → IsDigitCount 10 1 n k → last_digits 10 k n ≡ spelled f n
 unfolding spelled
@@ -33,17 +29,13 @@ spelled_is (suc (suc k)) (suc f) n l w = go (ltb n 10) refl (λ v. spelled_is (s
 
     go : (b : Bool) → ltb n 10 ≡ b → (IsDigitCount 10 1 (n / 10) (suc k) → last_digits 10 (suc k) (n / 10) ≡ spelled f (n / 10))
         → last_digits 10 (suc k) (n / 10) ++ (hex_digit_ascii (n % 10) ∷ []) ≡ cond b ((48 + n) ∷ []) (spelled f (n / 10) ++ ((48 + n % 10) ∷ []))
-    go true e tenth = absurd (let q = pow-suc 10 k in let r = some-power k in omega (arith, ltb-true n 10 e, p))
+    go true e tenth = absurd (let q = pow-suc 10 k in let r = one-le-pow k 10 (omega arith) in omega (arith, ltb-true n 10 e, p))
     go false e tenth =
         ap₂ (λ (xs : List ℕ) (d : ℕ). xs ++ (d ∷ []))
         (tenth (omega arith, (let q = pow-suc 10 (suc k) in omega (arith, w.1)), λ m. (let q = pow-suc 10 k in let o : suc k - 1 ≡ k = omega arith in rw o (omega (arith, p)))))
         (glyph-is (n % 10) (omega arith))
 
 -- a number of 64 bits has at most 20 digits
-power-up : (j d : ℕ) → 10 ^ j ≤ 10 ^ (d + j)
-power-up j zero = let e : 0 + j ≡ j = omega arith in rw e (omega arith)
-power-up j (suc d) = let e : suc d + j ≡ suc (d + j) = omega arith in let p = pow-suc 10 (d + j) in let q = power-up j d in rw e (omega arith)
-
 few-digits : (k n : ℕ) → n < 2 ^ 64 → IsDigitCount 10 1 n k → k ≤ 20
 few-digits k n l w = go (ltb 20 k) refl
   where
@@ -51,10 +43,9 @@ few-digits k n l w = go (ltb 20 k) refl
     go false e = ltb-false 20 k e
     go true e =
         let m = ltb-true 20 k e in
-        let d : k - 1 ≡ (k - 21) + 20 = omega arith in
         let p = w.2 (omega arith) in
-        let q = power-up 20 (k - 21) in
-        absurd (omega (arith, (rw d at p), q))
+        let q = pow-le-pow_right {n = 10} (omega arith) {i = 20} {j = k - 1} (omega arith) in
+        absurd (omega (arith, p, q))
 
 pub decimal-is : (k n : ℕ) → n < 2 ^ 64 → IsDigitCount 10 1 n k → last_digits 10 k n ≡ decimal n
 unfolding decimal

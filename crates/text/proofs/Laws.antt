@@ -5,9 +5,8 @@ use mathlib.Core.List.{List, [], ◌∷◌, ◌++◌, append_assoc}
 use Prim.Native.Nat.{ℕ, suc, ◌+◌, ◌≤◌, ◌<◌, min}
 use native.Mathlib.Omega.{arith}
 use borrow.Author.Tests.{lt-ltb, le-ltb}
-use lib.ListN.{length, set, take, drop, get_or, length-append, drop_of_length-le}
-use native.Mathlib.Numerals.{add-one}
-use lib.Seq.{drop-cons}
+use lib.ListN.{length, set, take, get_or, length-append}
+use Rattle.std.proofs.lemmas.List.{take_more}
 use Rattle.text.specs.Sink.{Sink, sink, put_byte, put, laid_over}
 
 pub put-append : (xs ys : List ℕ) (k : Sink) → put (xs ++ ys) k ≡ put ys (put xs k)
@@ -28,13 +27,9 @@ pub put-out : (b at : ℕ) (bytes : List ℕ) → length bytes ≤ at → sink a
 unfolding put put_byte
 put-out b at bytes l = simp (le-ltb at (length bytes) l)
 
--- a loop over a text: what is left of it
-pub put_rest : (text : List ℕ) (i : ℕ) (k : Sink) → i < length text → put (drop i text) k ≡ put (drop (i + 1) text) (put (get_or text i 0 ∷ []) k)
-put_rest text i k l = rw (add-one i) (ap (λ (t : List ℕ). put t k) (drop-cons text i 0 l) ∙ put-append (get_or text i 0 ∷ []) (drop (suc i) text) k)
-
-pub put-end : (text : List ℕ) (i : ℕ) (k : Sink) → length text ≤ i → k ≡ put (drop i text) k
-unfolding put
-put-end text i k l = rw (drop_of_length-le text l)
+-- a loop over a text: one byte more of it
+pub put_next : (text : List ℕ) (i : ℕ) (k l m : Sink) → i < length text → l ≡ put (take i text) k → m ≡ put (get_or text i 0 ∷ []) l → m ≡ put (take (i + 1) text) k
+put_next text i k l m h e f = onto (take i text) (get_or text i 0 ∷ []) k l m e f ∙ ap (λ (t : List ℕ). put t k) (sym (take_more text i 0 h))
 
 -- ---- from the beginning
 

@@ -1,51 +1,68 @@
-// Text in ASCII, laid into a lent buffer as far as the buffer goes. Each function takes the place of the next byte and answers the next.
+// Text in ASCII, laid into a lent buffer as far as the buffer goes.
 #![tactic(auto)]
 
 ghost use Rattle.std.specs.Prelude.{◌≡◌, [], ◌∷◌};
-ghost use Rattle.text.specs.Sink.{sink, put};
+ghost use Rattle.text.specs.Page.{lay};
 ghost use Rattle.text.specs.Numbers.{decimal, signed};
 
-// One byte.
-pub fn put_byte(out: &mut [u8], at: usize, byte: u8) -> usize
-    ensures { sink result out.new ≡ put (byte ∷ []) (sink at out.old) }
-{
-    if at < out.len() {
-        out[at] = byte;
-        return at + 1;
-    }
-    at
+// A lent buffer, and the place of its next byte.
+#[derive(Drop)]
+pub struct Page<'a> {
+    out: &'a mut [u8],
+    at: usize,
 }
 
-// A text.
-pub fn put_text(out: &mut [u8], at: usize, text: &[u8]) -> usize
-    ensures { sink result out.new ≡ put text.now (sink at out.old) }
-{
-    let mut next = at;
-    let mut i = 0;
-    while i < text.len() {
-        next = put_byte(out, next, text[i]);
-        i += 1;
+impl<'a> Page<'a> {
+    pub fn new(out: &'a mut [u8], at: usize) -> Page<'a>
+        ensures { result ≡ record { out = out.entry; at = at } }
+    {
+        Page { out, at }
     }
-    next
-}
 
-// A number.
-pub fn put_number(out: &mut [u8], at: usize, n: u64) -> usize
-    ensures { sink result out.new ≡ put (decimal n) (sink at out.old) }
-{
-    let mut digits = [0u8; 20];
-    let count = io::decimal(n, &mut digits);
-    put_text(out, at, &digits[..count])
-}
-
-// A number with its sign.
-pub fn put_signed(out: &mut [u8], at: usize, z: i32) -> usize
-    ensures { sink result out.new ≡ put (signed z) (sink at out.old) }
-{
-    let wide = z as i64;
-    if wide < 0 {
-        let next = put_byte(out, at, b'-');
-        return put_number(out, next, (0 - wide) as u64);
+    // One byte.
+    #[tactic(auto, unfolding(crate::specs::Sink::put, crate::specs::Sink::put_byte))]
+    pub fn put_byte(&mut self, byte: u8)
+        ensures { self.new ≡ lay (byte ∷ []) self.old }
+    {
+        if self.at < self.out.len() {
+            self.out[self.at] = byte;
+            self.at += 1;
+        }
     }
-    put_number(out, at, wide as u64)
+
+    // A text.
+    #[tactic(auto, using(crate::proofs::Laws::put_next), unfolding(crate::specs::Sink::put))]
+    pub fn put_text(&mut self, text: &[u8])
+        ensures { self.new ≡ lay text.now self.old }
+    {
+        for byte in text {
+            self.put_byte(*byte);
+        }
+    }
+
+    // A number.
+    pub fn put_number(&mut self, n: u64)
+        ensures { self.new ≡ lay (decimal n) self.old }
+    {
+        let mut digits = [0u8; 20];
+        let count = io::decimal(n, &mut digits);
+        self.put_text(&digits[..count]);
+    }
+
+    // A number with its sign.
+    pub fn put_signed(&mut self, z: i32)
+        ensures { self.new ≡ lay (signed z) self.old }
+    {
+        if z < 0 {
+            self.put_byte(b'-');
+        }
+        self.put_number(u64::from(z.unsigned_abs()));
+    }
+
+    // The place of the next byte, once the buffer is given back.
+    pub fn written(self) -> usize
+        ensures { (result ≡ self.entry.at) × (self.exit.0.now ≡ self.entry.out.now) }
+    {
+        self.at
+    }
 }

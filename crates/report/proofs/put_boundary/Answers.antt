@@ -5,19 +5,20 @@ use mir.Syntax.{w32}
 use mir.ValLaws.{to_z-of_z}
 use lib.IntN.{ℤ}
 use Rattle.paper.specs.Sequence.{◌!◌}
-use Rattle.text.specs.Sink.{Sink, put}
+use Rattle.text.specs.declared.Page.{Page}
+use Rattle.text.specs.Page.{lay}
 use Rattle.text.specs.Numbers.{signed}
-use Rattle.text.proofs.Laws.{onto}
+use Rattle.text.proofs.Pages.{laid-onto}
 use Rattle.report.specs.Lines.{space, boundary_text}
 use Rattle.report.proofs.put_boundary.Goals as goal
 
 -- the same text for the same number
-same : (y z : ℤ) (k l : Sink) → y ≡ z → l ≡ put (signed y) k → l ≡ put (signed z) k
-same y z k l e f = f ∙ ap (λ (x : ℤ). put (signed x) k) e
+same : (y z : ℤ) (k l : Page) → y ≡ z → l ≡ lay (signed y) k → l ≡ lay (signed z) k
+same y z k l e f = f ∙ ap (λ (x : ℤ). lay (signed x) k) e
 
 pub returns : goal.returns
 unfolding boundary_text space
 returns c =
     let a = c.args in
-    onto _ _ _ _ _ c.put_text-at.ensures
+    laid-onto _ _ _ _ _ c.put_text.ensures
     (same _ _ _ _ (to_z-of_z w32 (a.sequence.now ! a.i) (search rules)) c.put_signed.ensures)
