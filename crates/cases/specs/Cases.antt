@@ -1,9 +1,14 @@
 -- A part of a line, the bytes that it gives in hexadecimal, and a digest. Assumes nothing.
-use Rattle.std.specs.Prelude.{List, cond, ◌||◌, ℕ, zero, suc, ◌+◌, ◌-◌, ◌*◌, ◌/◌, ◌%◌, leb, ltb, eqb, length, get_or, set, take, drop}
+use Rattle.std.specs.Prelude.{◌≡◌, ◌<◌, ◌⊎◌, List, [], ◌∷◌, ◌++◌, cond, ◌||◌, ℕ, zero, suc, ◌+◌, ◌-◌, ◌*◌, ◌/◌, ◌%◌, leb, ltb, eqb, length, get_or, set, take, drop}
 
 -- what stands from one place up to another, and the whole where there is no such part
-abbrev pub part_of : List ℕ → ℕ → ℕ → List ℕ
+abbrev pub part_of : {A : Type 0} → List A → ℕ → ℕ → List A
 part_of l from to = cond (leb from to) (cond (leb to (length l)) (take (to - from) (drop from l)) l) l
+
+-- `line` is the first line of a list, and `rest` what stands behind the line feed that ends it
+pub record IsLine (list line rest : List ℕ) : Type 0 where
+  pub whole : (list ≡ line ++ (10 ∷ rest)) ⊎ ((list ≡ line) × (rest ≡ []))
+  pub free : (k : ℕ) → k < length line → get_or line k 0 ≡ 10 → ⊥
 
 -- the value of a hexadecimal digit, and 16 of any other character
 abbrev pub digit_of : ℕ → ℕ

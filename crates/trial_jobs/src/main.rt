@@ -2,7 +2,7 @@
 // program prints for it.
 #![tactic(auto)]
 
-ghost use Rattle.std.specs.Prelude.{◌+◌, ◌≤◌, ◌<◌, length};
+ghost use Rattle.std.specs.Prelude.{◌<◌, length, IfSome};
 
 use report::plan_job;
 
@@ -13,12 +13,9 @@ const MOST_INPUT: usize = 65536;
 
 // As many bytes of the file as the planning program reads of it, which print the same (`report`, `Prints`).
 fn read_in(file: &[u8], input: &mut [u8]) -> usize {
-    let mut i = 0;
-    while i < file.len() && i < input.len() {
-        input[i] = file[i];
-        i += 1;
-    }
-    i
+    let count = file.len().min(input.len());
+    input[..count].copy_from_slice(&file[..count]);
+    count
 }
 
 fn print_case(number: usize, file: &[u8]) {
@@ -32,28 +29,21 @@ fn print_case(number: usize, file: &[u8]) {
     io::write_all(STDOUT, &text[..length]);
 }
 
-// Two bytes, the lower first.
-fn length_at(input: &[u8], at: usize) -> usize
-    requires { at + 2 ≤ length input.now }
-    ensures { result < 65536 }
+// The first file, behind its length in two bytes, the lower first, and what stands behind it; none where the input ends before.
+fn next_case(input: &[u8]) -> Option<(&[u8], &[u8])>
+    ensures { IfSome result (λ found. length found.1.now < length input.now) }
 {
-    let low = input[at] as usize;
-    let high = input[at + 1] as usize;
-    low + 256 * high
+    let (length, rest) = input.split_first_chunk::<2>()?;
+    rest.split_at_checked(usize::from(u16::from_le_bytes(*length)))
 }
 
 fn print_cases(input: &[u8]) {
-    let mut at: usize = 0;
-    let mut number: usize = 0;
-    while at + 2 <= input.len() {
-        let start = at + 2;
-        let length = length_at(input, at);
-        if input.len() - start < length {
-            return;
-        }
-        let end = start + length;
-        print_case(number, &input[start..end]);
-        at = end;
+    let mut rest = input;
+    let mut number = 0;
+    // The number is only printed: the cases are cut off the front of what is left.
+    while let Some((file, after)) = next_case(rest) {
+        print_case(number, file);
+        rest = after;
         number += 1;
     }
 }

@@ -1,135 +1,113 @@
 // The steps of a case. Each is a letter, a length in two bytes, and a file of that length: `=` reads the file into the table, `+` joins it in,
 // `-` takes it off; and `~`, which has no file, sends the table so far, that is writes it and reads it back.
-ghost use Rattle.std.specs.Prelude.{◌≡◌, true, List, ℕ};
-ghost use Rattle.plate.specs.Head.{told_table};
-ghost use Rattle.plate.specs.Refusal.{after};
+ghost use Rattle.std.specs.Prelude.{◌≡◌, List, ℕ, None};
+ghost use Rattle.plate.specs.Refusal.{after, told};
 
 use crate::show;
 use cases::part;
 use joining::{join_tables, take_off};
-use plate::head::{Head, Tabled};
-use plate::refusal::Answer;
+use plate::head::Head;
+use plate::refusal::Refusal;
 use receive::read_table;
 use record::word;
 use send::write_table;
 use table::clear_table;
 
-// What goes with the table so far, and whether the last call was refused.
-#[derive(Clone, Copy)]
+// What the steps work on: a table with what goes with it, another table, and room for a file.
+#[derive(Drop)]
 pub(crate) struct Work {
     pub(crate) head: Head,
-    pub(crate) refused: bool,
+    pub(crate) table: [u32; 128],
+    other: [u32; 128],
+    output: [u8; 1024],
 }
 
-// After a call on a table. Where it is refused it has written nothing, and what went with the table before stays.
-fn answered(head: Head, answer: Tabled) -> Work
-    ensures { result.refused ≡ true → (written held : List ℕ) → after (told_table answer) written held ≡ held }
+// What a call answers; nothing where it is refused, which is shown, and it then has written nothing.
+fn done<T>(answer: Result<T, Refusal>) -> Option<T>
+    ensures { result ≡ None → (written held : List ℕ) → after (told answer) written held ≡ held }
 {
     match answer {
-        Tabled::Done(head) => {
-            show::next(head.columns as u64);
-            Work {
-                head,
-                refused: false,
-            }
-        }
-        Tabled::Refused(refusal) => {
+        Ok(value) => Some(value),
+        Err(refusal) => {
             show::refused(refusal);
-            Work {
-                head,
-                refused: true,
-            }
+            None
         }
     }
 }
 
-fn read(head: Head, file: &[u8], table: &mut [u32]) -> Work
-    ensures { result.refused ≡ true → table.new ≡ table.old }
+// What goes with the table after a call on it.
+fn answered(answer: Result<Head, Refusal>) -> Option<Head>
+    ensures { result ≡ None → (written held : List ℕ) → after (told answer) written held ≡ held }
+{
+    let head = done(answer)?;
+    show::next(head.columns);
+    Some(head)
+}
+
+fn read(file: &[u8], table: &mut [u32]) -> Option<Head>
+    ensures { result ≡ None → table.new ≡ table.old }
 {
     show::call(b"read");
-    answered(head, read_table(file, table))
+    answered(read_table(file, table))
 }
 
-// The file is read into another table, which is joined into the first one or taken off it; a refusal leaves the first as it was.
-fn combine(letter: u8, head: Head, file: &[u8], table: &mut [u32], other: &mut [u32]) -> Work
-    ensures { result.refused ≡ true → table.new ≡ table.old }
-{
-    let second = read(head, file, other);
-    if second.refused {
-        return second;
-    }
-    let other_head = second.head;
-    if letter == b'-' {
-        show::call(b"take off");
-        return answered(head, take_off(table, head, other, other_head));
-    }
-    show::call(b"join");
-    answered(head, join_tables(table, head, other, other_head))
-}
-
-// The table is cleared between, so that what it then holds came out of the file.
-fn read_again(head: Head, file: &[u8], table: &mut [u32]) -> Work {
-    clear_table(table, head.height, head.members);
-    read(head, file, table)
-}
-
-fn trip(head: Head, table: &mut [u32], output: &mut [u8]) -> Work {
-    show::call(b"write");
-    let answer = write_table(table, head, output);
-    match answer {
-        Answer::Done(size) => {
-            show::next(size);
-            read_again(head, part(output, 0, size as usize), table)
-        }
-        Answer::Refused(refusal) => {
-            show::refused(refusal);
-            Work {
-                head,
-                refused: true,
-            }
+impl Work {
+    pub(crate) fn new() -> Self {
+        Work {
+            head: Head::cleared(0, 0),
+            table: [0; 128],
+            other: [0; 128],
+            output: [0; 1024],
         }
     }
-}
 
-fn step(
-    letter: u8,
-    head: Head,
-    file: &[u8],
-    table: &mut [u32],
-    other: &mut [u32],
-    output: &mut [u8],
-) -> Work {
-    match letter {
-        b'=' => read(head, file, table),
-        b'~' => trip(head, table, output),
-        _ => combine(letter, head, file, table, other),
+    // The file is read into another table, which is joined into the first one or taken off it; a refusal leaves the first as it was. It is told which
+    // by the letter, and not by a closure: what a refusal leaves would have to be asked of the closure in a clause longer than both calls.
+    fn combine(&mut self, letter: u8, file: &[u8]) -> Option<Head>
+        ensures { result ≡ None → self.new.table ≡ self.old.table }
+    {
+        let other_head = read(file, &mut self.other)?;
+        if letter == b'-' {
+            show::call(b"take off");
+            return answered(take_off(&mut self.table, self.head, &self.other, other_head));
+        }
+        show::call(b"join");
+        answered(join_tables(&mut self.table, self.head, &self.other, other_head))
     }
-}
 
-// All steps, or up to the first that is refused. Before the first there are no settings.
-pub(crate) fn take_steps(
-    given: &[u8],
-    table: &mut [u32],
-    other: &mut [u32],
-    output: &mut [u8],
-) -> Work {
-    let mut work = Work {
-        head: Head::cleared(0, 0),
-        refused: false,
-    };
-    let mut at = 4;
-    while at < given.len() && !work.refused {
-        let from = at + 3;
-        let end = from + word(given, at + 1) as usize;
-        work = step(
-            given[at],
-            work.head,
-            part(given, from, end),
-            table,
-            other,
-            output,
-        );
-        at = end;
+    // The table is cleared between, so that what it then holds came out of the file. It was written with these settings, so the clearing refuses
+    // nothing.
+    fn read_again(&mut self, size: usize) -> Option<Head> {
+        let _ = clear_table(&mut self.table, self.head.height, self.head.members);
+        read(part(&self.output, 0, size), &mut self.table)
     }
-    work
+
+    fn trip(&mut self) -> Option<Head> {
+        show::call(b"write");
+        let size = done(write_table(&self.table, self.head, &mut self.output))?;
+        show::next(size);
+        self.read_again(size as usize)
+    }
+
+    fn step(&mut self, letter: u8, file: &[u8]) -> Option<Head> {
+        match letter {
+            b'=' => read(file, &mut self.table),
+            b'~' => self.trip(),
+            _ => self.combine(letter, file),
+        }
+    }
+
+    // All steps, or up to the first that is refused, and then nothing. Before the first there are no settings.
+    pub(crate) fn take_steps(&mut self, given: &[u8]) -> Option<()> {
+        self.head = Head::cleared(0, 0);
+        let mut rest = given.get(4..).unwrap_or(&[]);
+        while let Some((letter, behind)) = rest.split_first() {
+            let end = 2 + usize::from(word(behind, 0));
+            // Where the file is cut short, all that is given stands for it.
+            let file = behind.get(2..end).unwrap_or(given);
+            self.head = self.step(*letter, file)?;
+            rest = behind.get(end..).unwrap_or(&[]);
+        }
+        Some(())
+    }
 }

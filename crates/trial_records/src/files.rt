@@ -1,55 +1,48 @@
 // Files read into a part of a buffer that holds a pattern before, or into a table that is long enough for each of the list.
 ghost use Rattle.std.specs.Prelude.{true, ◌≡◌, ℕ, ◌+◌, ◌<◌, get_or};
 
-use crate::show;
-use load::{Load, Loaded, read_job};
+use crate::records::show_bound;
+use cases::{front, show};
+use load::{Load, read_job};
+use std::array;
 
-const PATTERN: [u32; 30] = [
-    900, 901, 902, 903, 904, 905, 906, 907, 908, 909, 910, 911, 912, 913, 914, 915, 916, 917, 918,
-    919, 920, 921, 922, 923, 924, 925, 926, 927, 928, 929,
-];
-
-// The front of a buffer; the whole of it where it is no longer than that.
-fn front(buffer: &mut [u32], size: usize) -> &mut [u32] {
-    if size <= buffer.len() {
-        return &mut buffer[..size];
-    }
-    buffer
+// What the buffer holds before.
+fn pattern() -> [u32; 30] {
+    array::from_fn(|i| 900 + i as u32)
 }
 
 // Whether every cell is as it was.
 fn is_pattern(table: &[u32; 30]) -> bool
     ensures { result ≡ true → (i : ℕ) → i < 30 → get_or table.now i 0 ≡ 900 + i }
 {
-    let mut i = 0;
-    while i < 30 {
-        if table[i] != 900 + i as u32 {
-            return false;
-        }
-        i += 1;
+    table.iter().zip(900..930).all(|(x, cell)| *x == cell)
+}
+
+// Whether memory that is not to be written is as it was.
+fn show_kept(table: &[u32; 30]) {
+    if is_pattern(table) {
+        show::text(b"; kept");
+    } else {
+        show::text(b"; changed");
     }
-    true
 }
 
 fn show_table(table: &[u32; 30]) {
     show::text(b"; table");
-    let mut i = 0;
-    while i < 30 {
-        show::next32(table[i]);
-        i += 1;
+    for x in table {
+        show::next(*x);
     }
 }
 
 fn show_load(load: Load) {
-    let head = load.head;
-    show::head(head);
-    show::bound(load.bound);
+    show::head(load.head);
+    show_bound(load.bound);
 }
 
 // By the most entries that a table or a sheet may have, and the length of the part that is lent. A file that was read shows the whole buffer,
 // so that what stands past the table, and past the part, is seen.
 pub(crate) fn file(numbers: [u64; 8], input: &[u8]) {
-    let mut table = PATTERN;
+    let mut table = pattern();
     let answer = read_job(
         input,
         numbers[0] as usize,
@@ -57,12 +50,11 @@ pub(crate) fn file(numbers: [u64; 8], input: &[u8]) {
     );
     show::text(b":");
     match answer {
-        Loaded::Refused(refusal) => {
-            let reason = refusal.reason;
-            show::refused(reason, refusal.place);
-            show::kept(is_pattern(&table));
+        Err(refusal) => {
+            show::refused(refusal);
+            show_kept(&table);
         }
-        Loaded::Done(load) => {
+        Ok(load) => {
             show_load(load);
             show_table(&table);
         }
@@ -74,11 +66,5 @@ pub(crate) fn whole(numbers: [u64; 8], input: &[u8]) {
     let mut table = [0u32; 4096];
     let answer = read_job(input, numbers[0] as usize, &mut table);
     show::text(b":");
-    match answer {
-        Loaded::Refused(refusal) => {
-            let reason = refusal.reason;
-            show::refused(reason, refusal.place);
-        }
-        Loaded::Done(load) => show_load(load),
-    }
+    show::answer(answer, show_load);
 }

@@ -4,10 +4,7 @@
 mod files;
 mod list;
 mod records;
-mod show;
 
 fn main() {
-    let mut list = [0u8; 131072];
-    let size = io::read_full(0, &mut list);
-    list::run(&list[..size]);
+    cases::on_list::<131072, _>(list::run);
 }

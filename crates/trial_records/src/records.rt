@@ -1,25 +1,30 @@
 // Records read one after the other, each in the state and at the place that the one before left.
-use crate::show;
+use cases::show;
 use job::{Asked, Cursor, Read, State, Step};
 use plate::head::Head;
+use plate::refusal::refusal_at;
+
+pub(crate) fn show_bound(bound: u32) {
+    show::text(b", bound");
+    show::next(bound);
+}
 
 fn show_state(state: State) {
     show::text(b"; begun");
-    show::next_flag(state.begun);
+    show::next(u64::from(state.begun));
     show::text(b", ended");
-    show::next_flag(state.ended);
+    show::next(u64::from(state.ended));
     show::text(b",");
-    let head = state.head;
-    show::head(head);
-    show::bound(state.bound);
+    show::head(state.head);
+    show_bound(state.bound);
 }
 
 fn show_asked(asked: Asked) {
     show::text(b" settings height");
-    show::next32(asked.height);
+    show::next(asked.height);
     show::text(b", members");
-    show::next32(asked.members);
-    show::bound(asked.bound);
+    show::next(asked.members);
+    show_bound(asked.bound);
 }
 
 fn show_read(read: Read) {
@@ -27,36 +32,30 @@ fn show_read(read: Read) {
         Read::Settings(asked) => show_asked(asked),
         Read::Column { start, count } => {
             show::text(b" column of");
-            show::next_size(count);
+            show::next(count);
             show::text(b" from");
-            show::next_size(start);
+            show::next(start);
         }
         Read::End(columns) => {
             show::text(b" end");
-            show::next32(columns);
+            show::next(columns);
         }
         Read::Remark => show::text(b" remark"),
-        Read::Fault { reason, place } => show::refused(reason, place as u64),
+        Read::Fault { reason, place } => show::refused(refusal_at(reason, place)),
     }
 }
 
 fn show_step(step: Step) {
-    let read = step.read;
-    let state = step.state;
-    let cursor = step.cursor;
     show::text(b":");
-    show_read(read);
-    show_state(state);
+    show_read(step.read);
+    show_state(step.state);
     show::text(b", at");
-    show::next_size(cursor.at);
+    show::next(step.cursor.at);
 }
 
 // A number of a state; the greatest of 32 bits where it is greater.
 fn narrow(number: u64) -> u32 {
-    if number < 4294967296 {
-        return number as u32;
-    }
-    4294967295
+    u32::try_from(number).unwrap_or(u32::MAX)
 }
 
 fn state_of(numbers: [u64; 8]) -> State {
@@ -79,12 +78,10 @@ pub(crate) fn records(numbers: [u64; 8], input: &[u8]) {
     let mut cursor = Cursor {
         at: numbers[6] as usize,
     };
-    let mut left = numbers[7];
-    while 0 < left {
+    for _ in 0..numbers[7] {
         let step = cursor.read(input, state);
         show_step(step);
         cursor = step.cursor;
         state = step.state;
-        left -= 1;
     }
 }

@@ -5,17 +5,7 @@
 mod list;
 mod memory;
 mod saves;
-mod show;
-
-fn run(list: &[u8]) {
-    let mut boundaries = [0u16; 256];
-    let mut counts = [0u16; 1000001];
-    let mut output = [0u8; 4000200];
-    list::run(list, &mut boundaries, &mut counts, &mut output);
-}
 
 fn main() {
-    let mut text = [0u8; 262144];
-    let size = io::read_full(0, &mut text);
-    run(&text[..size]);
+    cases::on_list::<262144, _>(list::run);
 }

@@ -1,42 +1,38 @@
 // A job file written into an output that holds marks before; and a job file read record by record, and written again from what was read.
-use crate::memory::{lay, part, show_kept, show_list, show_written};
-use crate::show;
-use cases::{fill, front};
+use crate::memory::{Memory, lay, show_list, show_written};
+use cases::{PAST, lend, part, show};
 use job::{Asked, Cursor, Read, State};
-use plate::refusal::Answer;
 use record::quad;
 use save::{job_size, write_job};
 
-// So many marks stand past what is lent, so that what is written there is seen.
-const PAST: usize = 8;
-
 fn save(asked: Asked, boundaries: &[u16], counts: &[u16], lent: usize, output: &mut [u8]) {
-    let marked = std::num::wrapping_add_usize(lent, PAST);
-    fill(output, marked);
-    let answer = write_job(
-        asked.height,
-        asked.members,
-        asked.bound,
-        boundaries,
-        counts,
-        front(output, lent),
-    );
-    show::answer(answer);
+    let answer = lend(output, lent, |output| {
+        write_job(
+            asked.height,
+            asked.members,
+            asked.bound,
+            boundaries,
+            counts,
+            output,
+        )
+    });
+    show::answer(answer, show::done);
     show::text(b"; size");
-    show::answer(job_size(counts));
+    show::answer(job_size(counts), show::done);
+    let marked = lent.saturating_add(PAST);
     match answer {
-        Answer::Done(size) => {
-            show_kept(output, size as usize, marked);
+        Ok(size) => {
+            show::kept(output, size as usize, marked);
             show_written(output, size as usize);
         }
-        Answer::Refused(_) => show_kept(output, 0, marked),
+        Err(_) => show::kept(output, 0, marked),
     }
 }
 
 // By eight numbers of four bytes each, and then boundaries and counts of two bytes each: the height, the members and the bound; how many
 // boundaries, and how many counts, stand here; how many columns there are, and from which on the counts are theirs, the others having none;
 // and the length of the output.
-pub(crate) fn write(given: &[u8], boundaries: &mut [u16], counts: &mut [u16], output: &mut [u8]) {
+pub(crate) fn write(given: &[u8], memory: &mut Memory) {
     let asked = Asked {
         height: quad(given, 0),
         members: quad(given, 4),
@@ -46,15 +42,15 @@ pub(crate) fn write(given: &[u8], boundaries: &mut [u16], counts: &mut [u16], ou
     let stated = quad(given, 16) as usize;
     let columns = quad(given, 20) as usize;
     let from = quad(given, 24) as usize;
-    lay(boundaries, 0, together, given, 32);
-    lay(counts, 0, columns, given, given.len());
-    lay(counts, from, stated, given, 32 + 2 * together);
+    lay(&mut memory.boundaries, 0, together, given, 32);
+    lay(&mut memory.counts, 0, columns, given, given.len());
+    lay(&mut memory.counts, from, stated, given, 32 + 2 * together);
     save(
         asked,
-        part(boundaries, together),
-        part(counts, columns),
+        part(&memory.boundaries, 0, together),
+        part(&memory.counts, 0, columns),
         quad(given, 28) as usize,
-        output,
+        &mut memory.output,
     );
 }
 
@@ -67,93 +63,85 @@ struct Gathered {
     remarks: u32,
 }
 
-fn lay_count(counts: &mut [u16], columns: usize, count: usize) -> usize {
-    if columns < counts.len() {
-        if count < 65536 {
-            counts[columns] = count as u16;
-            return columns + 1;
+impl Gathered {
+    fn none() -> Gathered {
+        Gathered {
+            asked: Asked {
+                height: 0,
+                members: 0,
+                bound: 0,
+            },
+            together: 0,
+            columns: 0,
+            remarks: 0,
         }
+    }
+
+    // With a record more, whose boundaries and count are laid behind those before.
+    fn with(mut self, read: Read, file: &[u8], memory: &mut Memory) -> Gathered {
+        match read {
+            Read::Settings(asked) => self.asked = asked,
+            Read::Column { start, count } => {
+                self.together = lay(&mut memory.boundaries, self.together, count, file, start);
+                self.columns = lay_count(&mut memory.counts, self.columns, count);
+            }
+            Read::Remark => self.remarks = self.remarks.wrapping_add(1),
+            _ => {}
+        }
+        self
+    }
+}
+
+// Lays a count behind so many columns, and answers how many columns there are then.
+fn lay_count(counts: &mut [u16], columns: usize, count: usize) -> usize {
+    if columns < counts.len() && count < 65536 {
+        counts[columns] = count as u16;
+        return columns + 1;
     }
     columns
 }
 
-fn gather(
-    mut gathered: Gathered,
-    file: &[u8],
-    read: Read,
-    boundaries: &mut [u16],
-    counts: &mut [u16],
-) -> Gathered {
-    match read {
-        Read::Settings(asked) => gathered.asked = asked,
-        Read::Column { start, count } => {
-            gathered.together = lay(boundaries, gathered.together, count, file, start);
-            gathered.columns = lay_count(counts, gathered.columns, count);
-        }
-        Read::Remark => gathered.remarks = std::num::wrapping_add_u32(gathered.remarks, 1),
-        _ => {}
-    }
-    gathered
-}
-
 // A file has no more records than bytes; after the end record the end is read again, and nothing is gathered from that.
-fn gather_all(file: &[u8], boundaries: &mut [u16], counts: &mut [u16]) -> Gathered {
-    let asked = Asked {
-        height: 0,
-        members: 0,
-        bound: 0,
-    };
-    let mut gathered = Gathered {
-        asked,
-        together: 0,
-        columns: 0,
-        remarks: 0,
-    };
+fn gather_all(file: &[u8], memory: &mut Memory) -> Gathered {
+    let mut gathered = Gathered::none();
     let mut cursor = Cursor::new();
     let mut state = State::new();
-    let mut left = file.len();
-    while 0 < left {
+    for _ in file {
         let step = cursor.read(file, state);
-        let read = step.read;
-        gathered = gather(gathered, file, read, boundaries, counts);
+        gathered = gathered.with(step.read, file, memory);
         cursor = step.cursor;
         state = step.state;
-        left -= 1;
     }
     gathered
 }
 
-fn save_again(
-    gathered: Gathered,
-    boundaries: &[u16],
-    counts: &[u16],
-    lent: usize,
-    output: &mut [u8],
-) {
+fn show_gathered(gathered: Gathered, boundaries: &[u16], counts: &[u16]) {
     let asked = gathered.asked;
-    save(asked, boundaries, counts, lent, output);
     show::text(b"; height");
-    show::next(asked.height as u64);
+    show::next(asked.height);
     show::text(b", members");
-    show::next(asked.members as u64);
+    show::next(asked.members);
     show::text(b", bound");
-    show::next(asked.bound as u64);
+    show::next(asked.bound);
     show::text(b"; boundaries");
     show_list(boundaries);
     show::text(b"; counts");
     show_list(counts);
     show::text(b"; remarks");
-    show::next(gathered.remarks as u64);
+    show::next(gathered.remarks);
 }
 
 // Reads a file, and writes what was read into an output of its length.
-pub(crate) fn round(file: &[u8], boundaries: &mut [u16], counts: &mut [u16], output: &mut [u8]) {
-    let gathered = gather_all(file, boundaries, counts);
-    save_again(
-        gathered,
-        part(boundaries, gathered.together),
-        part(counts, gathered.columns),
+pub(crate) fn round(file: &[u8], memory: &mut Memory) {
+    let gathered = gather_all(file, memory);
+    let boundaries = part(&memory.boundaries, 0, gathered.together);
+    let counts = part(&memory.counts, 0, gathered.columns);
+    save(
+        gathered.asked,
+        boundaries,
+        counts,
         file.len(),
-        output,
+        &mut memory.output,
     );
+    show_gathered(gathered, boundaries, counts);
 }

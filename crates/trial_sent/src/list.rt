@@ -1,35 +1,18 @@
 // The list of cases, a line each: a label, a colon, and bytes in hexadecimal, which are what the case is given. A dot is a byte of 0, as most
 // are; spaces are for the reader.
-use crate::{calls, show};
-use cases::{find, lay, letter, part};
+use crate::calls;
+use crate::calls::Memory;
+use cases::{each_case, letter};
 
 // By the second letter of a label.
-fn call(letter: u8, given: &[u8], table: &mut [u32], output: &mut [u8]) {
-    if letter == b'e' {
-        calls::read(given, table, output);
-        return;
-    }
-    if letter == b'o' {
-        calls::round(given, table, output);
-        return;
-    }
-    calls::write(given, table, output);
-}
-
-fn case(line: &[u8], given: &mut [u8], table: &mut [u32], output: &mut [u8]) {
-    let colon = find(line, 0, b':');
-    let size = lay(given, part(line, colon, line.len()));
-    show::text(part(line, 0, colon));
-    show::text(b":");
-    call(letter(line, 1), part(given, 0, size), table, output);
-}
-
-pub(crate) fn run(list: &[u8], given: &mut [u8], table: &mut [u32], output: &mut [u8]) {
-    let mut start = 0;
-    while start < list.len() {
-        let end = find(list, start, b'\n');
-        case(part(list, start, end), given, table, output);
-        show::text(b"\n");
-        start = end + 1;
-    }
+pub(crate) fn run(list: &[u8]) {
+    let mut memory = Memory {
+        table: [0; 18400],
+        output: [0; 77100],
+    };
+    each_case::<16384, _>(list, |line, given| match letter(line, 1) {
+        b'e' => calls::read(given, &mut memory),
+        b'o' => calls::round(given, &mut memory),
+        _ => calls::write(given, &mut memory),
+    });
 }
