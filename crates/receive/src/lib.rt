@@ -11,7 +11,7 @@ ghost use Rattle.plate.specs.Call.{Does};
 ghost use Rattle.plate.specs.Refusal.{said_by, check, told};
 ghost use Rattle.plate.specs.Head.{SettingsFor};
 ghost use Rattle.plate.specs.Settings.{Sound, Judges};
-ghost use Rattle.record.specs.Bytes.{quads};
+ghost use Rattle.record.specs.Bytes.{le16, le32, quads};
 ghost use Rattle.sent.specs.Kinds.{allowed_after, fits as Kind·fits};
 ghost use Rattle.sent.specs.File.{head_in, opening_checks, row_place, row_checks, end_checks, record_checks, rows_checks, cells_from};
 ghost use Rattle.table.specs.Limits.{Limits};
@@ -21,7 +21,7 @@ ghost use Rattle.receive.specs.Rows.{over_at, RowStands};
 use plate::head::Head;
 use plate::refusal::{Reason, Refusal, refusal_at};
 use plate::settings::Settings;
-use record::{Fault, Stored, bytes_left, check_frame, check_tail, kind_at, length_at, quad, word};
+use record::{Fault, bytes_left, check_frame, check_tail, kind_at, length_at, quad, word};
 use sent::{Kind, start_bits};
 use table::{limits_of, row_end};
 
@@ -51,6 +51,15 @@ fn check_opening(file: &[u8]) -> Result<Settings, Refusal>
     Ok(s)
 }
 
+// The cell that stands at a place.
+#[tactic(auto, unfolding(record::specs::Bytes::le32, record::specs::Bytes::le16))]
+fn cell_at(file: &[u8], at: usize) -> u32
+    requires { at + 4 ≤ length file.now }
+    ensures { result ≡ le32 file.now at }
+{
+    u32::from_le_bytes([file[at], file[at + 1], file[at + 2], file[at + 3]])
+}
+
 // Whether one of the cells that stand from a place on is above its limit. The loop has no way out, so that it is quick where there is none, as
 // is mostly so.
 fn any_over(file: &[u8], limits: &[u32; 32], at: usize, width: usize) -> bool
@@ -60,7 +69,7 @@ fn any_over(file: &[u8], limits: &[u32; 32], at: usize, width: usize) -> bool
     let end = row_end(width);
     let mut found = false;
     for j in 0..end {
-        found |= limits[j] < u32::load(file, at + 4 * j);
+        found |= limits[j] < cell_at(file, at + 4 * j);
     }
     found
 }
@@ -76,6 +85,15 @@ fn check_cells(file: &[u8], limits: &[u32; 32], at: usize, width: usize) -> Resu
     Ok(())
 }
 
+// Two bytes that are there, the lower first.
+#[tactic(auto, unfolding(record::specs::Bytes::le16))]
+fn word_at(file: &[u8], at: usize) -> u16
+    requires { at + 2 ≤ length file.now }
+    ensures { result ≡ le16 file.now at }
+{
+    u16::from_le_bytes([file[at], file[at + 1]])
+}
+
 // Whether a whole row with this start stands at a place. It mostly does, and so it is asked first, by the six bytes that a row begins with.
 fn stands(file: &[u8], at: usize, width: usize, start: u16) -> bool
     requires { width ≤ most_thickness }
@@ -83,9 +101,9 @@ fn stands(file: &[u8], at: usize, width: usize, start: u16) -> bool
 {
     let length = 2 + 4 * width;
     4 + length <= bytes_left(file, at)
-        && usize::from(u16::load(file, at)) == length
-        && u16::load(file, at + 2) == Kind::Row.number()
-        && u16::load(file, at + 4) == start
+        && usize::from(word_at(file, at)) == length
+        && word_at(file, at + 2) == Kind::Row.number()
+        && word_at(file, at + 4) == start
 }
 
 // A row whose frame was judged: its start is the next one, and then 6.
@@ -116,7 +134,8 @@ fn check_end(file: &[u8], s: Settings, row: usize, at: usize) -> Result<(), Refu
     requires row_le_rows { (row ≤ s.rows) × (at ≡ row_place (head_in file.now).members row) }
     ensures { said_by result ≡ first (end_checks file.now (head_in file.now) (s.rows - row) row) }
 {
-    if row != s.rows {
+    let is_missing = row != s.rows;
+    if is_missing {
         return Err(Fault::Disagrees.at(at));
     }
     if usize::from(word(file, at + 4)) != s.rows {
@@ -207,7 +226,7 @@ fn fill_row(file: &[u8], at: usize, cells: &mut [u32])
     ensures { cells.new ≡ quads file.now at (length cells.old) }
 {
     for (j, cell) in cells.iter_mut().enumerate() {
-        *cell = u32::load(file, at + 4 * j);
+        *cell = cell_at(file, at + 4 * j);
     }
 }
 

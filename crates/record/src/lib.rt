@@ -48,79 +48,57 @@ impl Fault {
     }
 }
 
-// A number that a file holds in so many bytes, the lowest first: by what it is read, and as what it is written.
-pub trait Stored: Copy {
-    ghost read: { List ℕ → ℕ → Self };
-
+// A number that a file holds in N bytes, the lowest first.
+pub trait Stored<const N: usize>: Copy {
     ghost bytes: { Self → List ℕ };
 
-    ghost WIDTH: { ℕ };
+    fn to_bytes(self) -> [u8; N]
+        ensures { result ≡ bytes self };
 
-    const WIDTH: usize;
-
-    // The number whose bytes stand at a place.
-    fn load(input: &[u8], at: usize) -> Self
-        requires { at + WIDTH ≤ length input.now }
-        ensures { result ≡ read input.now at };
-
-    // Its bytes, put at a place.
-    fn store(self, out: &mut [u8], at: usize)
-        requires { at + WIDTH ≤ length out.old }
-        ensures { out.new ≡ sets out.old at (bytes self) };
-
-    ghost long: { (n : Self) → length (bytes n) ≡ WIDTH };
+    ghost long: { (n : Self) → length (bytes n) ≡ N };
 }
 
-impl Stored for u16 {
-    ghost read = { le16 };
-
+impl Stored<2> for u16 {
     ghost bytes = { bytes16 };
 
-    ghost WIDTH = { 2 };
-
-    const WIDTH: usize = 2;
-
-    #[tactic(auto, unfolding(crate::specs::Bytes::le16))]
-    fn load(input: &[u8], at: usize) -> u16 {
-        u16::from_le_bytes([input[at], input[at + 1]])
-    }
-
-    fn store(self, out: &mut [u8], at: usize) {
-        out[at..at + 2].copy_from_slice(&self.to_le_bytes());
+    #[tactic(auto, using(crate::proofs::Stores::low_first16))]
+    fn to_bytes(self) -> [u8; 2] {
+        u16::to_le_bytes(self)
     }
 
     ghost long = { long16 };
 }
 
-impl Stored for u32 {
-    ghost read = { le32 };
-
+impl Stored<4> for u32 {
     ghost bytes = { bytes32 };
 
-    ghost WIDTH = { 4 };
-
-    const WIDTH: usize = 4;
-
-    #[tactic(auto, unfolding(crate::specs::Bytes::le32, crate::specs::Bytes::le16))]
-    fn load(input: &[u8], at: usize) -> u32 {
-        u32::from_le_bytes([input[at], input[at + 1], input[at + 2], input[at + 3]])
-    }
-
-    fn store(self, out: &mut [u8], at: usize) {
-        out[at..at + 4].copy_from_slice(&self.to_le_bytes());
+    #[tactic(auto, using(crate::proofs::Stores::low_first32))]
+    fn to_bytes(self) -> [u8; 4] {
+        u32::to_le_bytes(self)
     }
 
     ghost long = { long32 };
 }
 
 // Stores numbers one after the other, from a place on.
-pub fn store_all<T: Stored>(out: &mut [u8], at: usize, numbers: &[T])
-    requires { at + T.WIDTH * length numbers.now ≤ length out.old }
+fn store_all<const N: usize, T: Stored<N>>(out: &mut [u8], at: usize, numbers: &[T])
+    requires { at + N * length numbers.now ≤ length out.old }
     ensures { out.new ≡ sets out.old at (spelled T.bytes numbers.now) }
 {
     for (i, number) in numbers.iter().enumerate() {
-        number.store(out, at + T::WIDTH * i);
+        let next = at + N * i;
+        out[next..next + N].copy_from_slice(&number.to_bytes());
     }
+}
+
+// Writes numbers from a place on, where there is room for them all, and else nothing.
+pub fn write_all<const N: usize, T: Stored<N>>(out: &mut [u8], at: usize, numbers: &[T])
+    ensures { out.new ≡ laid_at out.old at (spelled T.bytes numbers.now) }
+{
+    if out.len() < at || out.len() - at < numbers.len().saturating_mul(N) {
+        return;
+    }
+    store_all(out, at, numbers);
 }
 
 // The bytes from a place on; a place past the input counts as nothing left.
@@ -131,14 +109,14 @@ pub fn bytes_left(input: &[u8], at: usize) -> usize
 }
 
 // Two bytes, the lower first.
-#[tactic(auto, using(crate::proofs::Bytes::none_left, crate::proofs::Bytes::one_left))]
+#[tactic(auto, using(crate::proofs::Bytes::none_left, crate::proofs::Bytes::one_left), unfolding(crate::specs::Bytes::le16))]
 pub fn word(input: &[u8], at: usize) -> u16
     ensures { result ≡ le16 input.now at }
 {
     match bytes_left(input, at) {
         0 => 0,
         1 => u16::from(input[at]),
-        _ => u16::load(input, at),
+        _ => u16::from_le_bytes([input[at], input[at + 1]]),
     }
 }
 
@@ -154,10 +132,13 @@ pub fn word_after(input: &[u8], start: usize, before: usize) -> u16
 }
 
 // Four bytes, the lowest first.
-#[tactic(auto, unfolding(crate::specs::Bytes::le32))]
+#[tactic(auto, unfolding(crate::specs::Bytes::le32, crate::specs::Bytes::le16))]
 pub fn quad(input: &[u8], at: usize) -> u32
     ensures { result ≡ le32 input.now at }
 {
+    if 4 <= bytes_left(input, at) {
+        return u32::from_le_bytes([input[at], input[at + 1], input[at + 2], input[at + 3]]);
+    }
     let low = u32::from(word(input, at));
     let high = u32::from(word_after(input, at, 1));
     low + 65536 * high
@@ -177,10 +158,7 @@ pub fn read_words(input: &[u8], start: usize, out: &mut [u16])
 pub fn write_numbers(out: &mut [u8], at: usize, numbers: &[u16])
     ensures { out.new ≡ laid_at out.old at (bytes_of numbers.now) }
 {
-    if out.len() < at || (out.len() - at) / 2 < numbers.len() {
-        return;
-    }
-    store_all(out, at, numbers);
+    write_all(out, at, numbers);
 }
 
 // The body length of the record at a place.

@@ -20,7 +20,7 @@ ghost use Rattle.send.specs.Sending.{sending};
 use plate::head::Head;
 use plate::refusal::{Reason, Refusal, refusal_at};
 use plate::settings::Settings;
-use record::{store_all, write_numbers};
+use record::{write_all, write_numbers};
 use sent::{Kind, start_bits};
 use table::check_table;
 
@@ -32,7 +32,7 @@ fn write_row(out: &mut [u8], at: usize, start: u16, row: &[u32])
 {
     let begun = [2 + 4 * row.len() as u16, Kind::Row.number(), start];
     write_numbers(out, at, &begun);
-    store_all(out, at + 6, row);
+    write_all(out, at + 6, row);
 }
 
 // The records of all rows.

@@ -15,4 +15,4 @@ loop-j-preserved c =
     let l = c.loop-j in
     let a = c.args in
     let next : suc l.j ≡ l.j + 1 = omega arith in
-    ap₂ ◌||◌ l.invariant (ap (ltb (get_or a.limits.now l.j 0)) c.load.ensures) ∙ ap (some_below (over_at a.limits.now a.file.now a.at)) next
+    ap₂ ◌||◌ l.invariant (ap (ltb (get_or a.limits.now l.j 0)) c.cell_at.ensures) ∙ ap (some_below (over_at a.limits.now a.file.now a.at)) next

@@ -12,4 +12,4 @@ pub loop-j-preserved : goal.loop-j-preserved
 unfolding quads
 loop-j-preserved c =
     let l = c.loop-j in
-    numbers_more (le32 c.args.file.now) 4 c.args.at l.j c.load.result l.cells (omega (arith, l.auto.cells, c.loop-j-test.true)) l.invariant c.load.ensures
+    numbers_more (le32 c.args.file.now) 4 c.args.at l.j c.cell_at.result l.cells (omega (arith, l.auto.cells, c.loop-j-test.true)) l.invariant c.cell_at.ensures
