@@ -121,7 +121,7 @@ fn write_columns(out: &mut [u8], at: usize, run: &[u16], counts: &[u16])
     for count in counts {
         let end = start + usize::from(*count);
         write_column(out, next, &run[start..end]);
-        next += 4 + 2 * usize::from(*count);
+        next += 4 + 2 * (end - start);
         start = end;
     }
 }
