@@ -199,7 +199,8 @@ pub fn plan_job(input: &[u8; 4097], count: usize, text: &mut [u8; 131072]) -> us
 {
     let all: &[u8] = input;
     let mut page = Page::new(text, 0);
-    if MOST < count {
+    let too_long = MOST < count;
+    if too_long {
         put_refused(&mut page, 17, 0);
         return page.written();
     }

@@ -14,8 +14,8 @@ use Rattle.receive.proofs.check_end.Goals as goal
 refused : (n : Numbered) (number place row : ℕ) → n ≡ at number place → place ≡ row → some n ≡ some (at number row)
 refused n number place row e p = ap some (e ∙ ap (at number) p)
 
-pub returns-then-row-s : goal.returns-then-row-s
-returns-then-row-s c =
+pub returns-then-is_missing : goal.returns-then-is_missing
+returns-then-is_missing c =
     let a = c.args in
     refused _ _ _ _ c.at.ensures c.requires.row_le_rows.1 ∙ end-missing a.file.now (head_in a.file.now) _ a.row (omega (arith, c.requires.row_le_rows.0))
 

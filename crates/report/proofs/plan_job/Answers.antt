@@ -5,8 +5,8 @@ use Rattle.report.proofs.Lengths.{long-fits}
 use Rattle.report.proofs.Whole.{long-is, short-is, prints}
 use Rattle.report.proofs.plan_job.Goals as goal
 
-pub returns-then-count-gt-MOST : goal.returns-then-count-gt-MOST
-returns-then-count-gt-MOST c =
+pub returns-then-too_long : goal.returns-then-too_long
+returns-then-too_long c =
     let a = c.args in
     prints a.input.now a.count _ c.told-input c.told-text _ _ _ long-fits (search rules) (long-is _ (omega (arith, c.told-input, length-take a.count a.input.now)))
 
