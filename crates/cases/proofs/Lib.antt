@@ -1,1 +1,4 @@
 pub mod Digests
+pub mod Texts
+pub mod Parts
+pub mod Marks

@@ -1,5 +1,6 @@
 -- A part of a line, the bytes that it gives in hexadecimal, and a digest. Assumes nothing.
 use Rattle.std.specs.Prelude.{◌≡◌, ◌<◌, ◌⊎◌, List, [], ◌∷◌, ◌++◌, cond, ◌||◌, ℕ, zero, suc, ◌+◌, ◌-◌, ◌*◌, ◌/◌, ◌%◌, leb, ltb, eqb, length, get_or, set, take, drop}
+use Rattle.lists.specs.Search.{lowest}
 
 -- what stands from one place up to another, and the whole where there is no such part
 abbrev pub part_of : {A : Type 0} → List A → ℕ → ℕ → List A
@@ -54,3 +55,17 @@ digest_with digest x = (digest % 4294967291 * 1000003 + x % 4294967291 + 1) % 42
 unfoldable pub digest_of : List ℕ → ℕ → ℕ
 digest_of l zero = 0
 digest_of l (suc n) = digest_with (digest_of l n) (get_or l n 0)
+
+-- how many characters stand before the first colon
+unfoldable pub before_colon : List ℕ → ℕ
+before_colon line = lowest (λ k. eqb (get_or line k 0) 58) (length line)
+
+abbrev pub label_of : List ℕ → List ℕ
+label_of line = take (before_colon line) line
+
+-- what is held when the characters from the first colon on are laid into it, and the bytes that they give
+abbrev pub given_by : List ℕ → List ℕ → Laid
+given_by line held = laid_by (drop (before_colon line) line) (length (drop (before_colon line) line)) held
+
+abbrev pub given_of : List ℕ → List ℕ → List ℕ
+given_of line held = take ((given_by line held).halves / 2) (given_by line held).held

@@ -1,6 +1,5 @@
 // Lent memory: the front of it that a call is lent, the marks that it holds before the call, and a digest of what it holds after.
 ghost use Rattle.std.specs.Prelude.{◌≡◌, List, ℕ, ◌+◌, ◌%◌, ◌≤◌, ◌<◌, min, max, map, length, get_or, set, take};
-ghost use Rattle.std.specs.Fn.{FnOnceReturnsAtMut};
 ghost use Rattle.lists.specs.Rewrite.{Span};
 ghost use Rattle.cases.specs.Cases.{digest_with, digest_of};
 
@@ -112,13 +111,12 @@ pub fn fill<T: Mark>(output: &mut [T], size: usize)
     }
 }
 
-// Makes a call that is lent the front of memory, over marks that reach some way past it.
-pub fn lend<T: Mark, R, F: FnOnce(&mut [T]) -> R>(memory: &mut [T], size: usize, call: F) -> R
-    requires { F.IsAlwaysCallable call }
-    ensures { (held : List T) × (left : List T) × Span T.none 0 (min (size + 8) (length memory.old)) (λ i x. T.mark i) memory.old held × FnOnceReturnsAtMut F.FnOnce call (take size held) result left }
+// The front of memory that a call is lent, over marks that reach some way past it.
+pub fn lend<T: Mark>(memory: &mut [T], size: usize) -> &mut [T]
+    ensures { (held : List T) × Span T.none 0 (min (size + 8) (length memory.old)) (λ i x. T.mark i) memory.old held × (result.now ≡ take size held) }
 {
     fill(memory, size.saturating_add(PAST));
-    call(front(memory, size))
+    front(memory, size)
 }
 
 // The end of the marks that stand from one index on, up to another.

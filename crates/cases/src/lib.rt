@@ -1,5 +1,5 @@
 // What the programs over lists of cases have in common: the lines of such a list and the bytes that one gives (line.rt), lent memory, which holds
-// marks before a call (lent.rt), and what is printed (show.rt).
+// marks before a call (lent.rt), and what is shown of a case, put on a page (show.rt).
 #![tactic(auto)]
 
 mod lent;
@@ -7,5 +7,5 @@ mod line;
 pub mod show;
 
 pub use lent::{Mark, Number, PAST, change, digest, digested, end_of_marks, fill, front, lend};
-pub use line::{Lines, each_case, find, lay, letter, on_list, part};
+pub use line::{Lines, find, given, label, lay, letter, part};
 pub use show::STDOUT;

@@ -1,10 +1,7 @@
 // A list of cases: its lines, the parts of a line, and the bytes that a line gives in hexadecimal.
 ghost use Rattle.std.specs.Prelude.{◌≡◌, List, ℕ, ◌+◌, ◌^◌, ◌/◌, ◌%◌, ◌≤◌, ◌<◌, min, length, get_or, MatchOption};
-ghost use Rattle.std.specs.Fn.{FnOnceReturnsAt};
 ghost use Rattle.std.specs.Iterator.{at_most};
-ghost use Rattle.cases.specs.Cases.{part_of, digit_of, laid, with_half, with_byte, with_next, laid_by, IsLine};
-
-use crate::show::text;
+ghost use Rattle.cases.specs.Cases.{part_of, digit_of, laid, with_half, with_byte, with_next, laid_by, label_of, given_of, IsLine};
 
 // The lines of a list that are still to come, each without the line feed that ends it.
 #[derive(Clone, Copy)]
@@ -36,34 +33,6 @@ impl<'a> Iterator for Lines<'a> {
         let (line, rest) = self.rest.split_at(end);
         self.rest = rest.get(1..).unwrap_or(rest);
         Some(line)
-    }
-}
-
-// Runs a program over the list of cases that stands in standard input, of which the first `N` bytes are read.
-pub fn on_list<const N: usize, F: FnOnce(&[u8])>(run: F)
-    requires size { N < 2 ^ 63 }
-    requires callable { F.IsAlwaysCallable run }
-    ensures { (list : List ℕ) × (length list ≤ N) × FnOnceReturnsAt F.FnOnce run list tt }
-{
-    let mut list = [0; N];
-    let size = io::read_full(0, &mut list);
-    run(&list[..size]);
-}
-
-// Runs each case of a list, a line that has a label, a colon, and bytes in hexadecimal, which are what the case is given, at most `N` of them.
-// A line is printed for each, which begins with the label.
-pub fn each_case<const N: usize, F: FnMut(&[u8], &[u8])>(list: &[u8], mut run: F)
-    requires room { N < 2 ^ 63 }
-    requires callable { F.IsAlwaysCallable run }
-{
-    for line in Lines::of(list) {
-        let colon = find(line, 0, b':');
-        let mut held = [0; N];
-        let size = lay(&mut held, part(line, colon, line.len()));
-        text(part(line, 0, colon));
-        text(b":");
-        run(line, part(&held, 0, size));
-        text(b"\n");
     }
 }
 
@@ -151,4 +120,20 @@ pub fn lay(given: &mut [u8], words: &[u8]) -> usize
         halves = lay_next(given, halves, *character);
     }
     halves / 2
+}
+
+// What stands before the first colon of a line, and the whole line where there is none.
+pub fn label(line: &[u8]) -> &[u8]
+    ensures { result.now ≡ label_of line.now }
+{
+    part(line, 0, find(line, 0, b':'))
+}
+
+// The bytes that a line gives behind its first colon, laid into what is held, as far as there is room.
+pub fn given<'a>(line: &[u8], held: &'a mut [u8]) -> &'a [u8]
+    ensures { result.now ≡ given_of line.now held.old }
+{
+    let colon = find(line, 0, b':');
+    let size = lay(held, part(line, colon, line.len()));
+    part(held, 0, size)
 }

@@ -1,8 +1,8 @@
--- The call gets the front of memory that is filled. Assumes nothing.
-use Rattle.std.proofs.Common.{◌≡◌, refl, ◌+◌, min, length, arith}
+-- What is lent is the front of memory that is filled. Assumes nothing.
+use Rattle.std.proofs.Common.{◌≡◌, ◌+◌, min, length, arith}
 use Rattle.cases.proofs.lent.lend.Goals as goal
 
 pub returns : goal.returns
 returns g c =
     let many : min c.saturating_add.result (length c.args.memory.now) ≡ min (c.args.size + 8) (length c.args.memory.now) = omega arith in
-    (c.fill.new.output, c.call.new.arg2, rw many at c.fill.ensures, record { shown = c.front.result; shows = c.front.ensures; left = _; met = c.call.ensures; leaves = refl })
+    (c.fill.new.output, rw many at c.fill.ensures, c.front.ensures)

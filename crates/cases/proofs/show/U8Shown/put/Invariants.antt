@@ -1,0 +1,8 @@
+-- The bytes that are left, put where the loop stands, are all of them put where it began. Assumes nothing.
+use Rattle.std.proofs.Common.{◌≡◌, drop}
+use Rattle.text.specs.Page.{lay}
+use Rattle.cases.specs.Shown.{byte_text, each_text}
+use Rattle.cases.proofs.show.U8Shown.put.Given as goal
+
+abbrev pub invariant-loop-x : goal.invariant-loop-x
+invariant-loop-x l = lay (each_text byte_text (drop l.x-index l.items)) l.page ≡ lay (each_text byte_text l.items) l.initial.page
