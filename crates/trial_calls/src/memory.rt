@@ -2,47 +2,48 @@
 use crate::line::{Numbers, Value};
 use crate::show;
 use cases::{Number, digest, part};
+use text::Page;
 
 // Up to so many elements are shown one by one, more by a digest.
 const FEW: usize = 100;
 
 // What a buffer holds. A number of a line is laid as one.
 pub(crate) trait Element: Copy + From<Value> {
-    fn show(self);
+    fn put(self, page: &mut Page);
 }
 
 impl Element for u8 {
-    fn show(self) {
-        show::next(self);
+    fn put(self, page: &mut Page) {
+        show::next(page, self);
     }
 }
 
 impl Element for u16 {
-    fn show(self) {
-        show::next(self);
+    fn put(self, page: &mut Page) {
+        show::next(page, self);
     }
 }
 
 impl Element for u32 {
-    fn show(self) {
-        show::next(self);
+    fn put(self, page: &mut Page) {
+        show::next(page, self);
     }
 }
 
 // `none` for the greatest.
 impl Element for u64 {
-    fn show(self) {
+    fn put(self, page: &mut Page) {
         if self == u64::MAX {
-            show::text(b" none");
+            page.put_text(b" none");
         } else {
-            show::next(self);
+            show::next(page, self);
         }
     }
 }
 
 impl Element for i32 {
-    fn show(self) {
-        show::signed(self);
+    fn put(self, page: &mut Page) {
+        show::signed(page, self);
     }
 }
 
@@ -63,18 +64,18 @@ pub(crate) fn lay<T: Element>(buffer: &mut [T], line: &[u8], character: u8) {
 }
 
 // The front of a buffer, element by element.
-pub(crate) fn show_each<T: Element>(buffer: &[T], asked: usize) {
+pub(crate) fn show_each<T: Element>(page: &mut Page, buffer: &[T], asked: usize) {
     for x in part(buffer, 0, asked) {
-        x.show();
+        x.put(page);
     }
 }
 
 // The front of a buffer: its elements where they are few, a digest of all else.
-pub(crate) fn show_front<T: Element + Number>(buffer: &[T], asked: usize) {
+pub(crate) fn show_front<T: Element + Number>(page: &mut Page, buffer: &[T], asked: usize) {
     if asked.min(buffer.len()) <= FEW {
-        show_each(buffer, asked);
+        show_each(page, buffer, asked);
         return;
     }
-    show::text(b" digest");
-    show::next(digest(buffer, asked));
+    page.put_text(b" digest");
+    show::next(page, digest(buffer, asked));
 }

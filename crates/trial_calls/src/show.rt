@@ -1,15 +1,13 @@
-// What is printed of each line; the words, numbers and answers in it are printed as in every program over a list of cases.
-use crate::line::Numbers;
-pub(crate) use cases::show::{answer, done, next, refused, signed, text};
-use cases::{find, part};
+// What is shown of a line: its label, which is printed by itself, since it may be as long as the list, and then a page. The words, numbers and
+// answers on the page are put there as in every program over a list of cases.
+pub(crate) use cases::show::{answer, done, next, refused, signed};
+use cases::{STDOUT, label};
 
-// A line's label; its numbers are handed on.
-pub(crate) fn label(line: &[u8]) -> Numbers<'_> {
-    text(part(line, 0, find(line, 0, b':')));
-    text(b":");
-    Numbers::after(line, b':')
+pub(crate) fn print(words: &[u8]) {
+    io::write_all(STDOUT, words);
 }
 
-pub(crate) fn end() {
-    text(b"\n");
+pub(crate) fn print_label(line: &[u8]) {
+    print(label(line));
+    print(b":");
 }

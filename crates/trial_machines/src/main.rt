@@ -7,6 +7,16 @@ mod plans;
 mod show;
 mod steps;
 
+// The most bytes of a list; what stands behind them is not read.
+const MOST: usize = 131072;
+
+// The list. Its room is lent, and not made here: a proof of the bounds would go through all of its zeros.
+fn read(room: &mut [u8; MOST]) -> &[u8] {
+    let size = io::read_full(0, room);
+    &room[..size]
+}
+
 fn main() {
-    cases::on_list::<131072, _>(list::run);
+    let mut room = [0; MOST];
+    list::run(read(&mut room));
 }

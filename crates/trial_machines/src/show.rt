@@ -1,13 +1,19 @@
-// What is printed of a case: the names of its calls, and a table with what goes with it. The words, numbers and refusals in it are printed as in
-// every program over a list of cases.
-pub(crate) use cases::show::{next, refused, signed, text};
+// What is shown of a case, put on a page: the names of its calls, and a table with what goes with it. The words, numbers and refusals in it are
+// put there as in every program over a list of cases.
+use cases::STDOUT;
+pub(crate) use cases::show::{next, refused, signed};
 use plate::head::Head;
 use plate::settings::Settings;
+use text::Page;
+
+pub(crate) fn print(words: &[u8]) {
+    io::write_all(STDOUT, words);
+}
 
 // The name of a call that is made.
-pub(crate) fn call(name: &[u8]) {
-    text(b"; ");
-    text(name);
+pub(crate) fn call(page: &mut Page, name: &[u8]) {
+    page.put_text(b"; ");
+    page.put_text(name);
 }
 
 // Of no settings there is no cell.
@@ -18,11 +24,11 @@ fn cells_of(head: Head) -> usize {
     }
 }
 
-pub(crate) fn table(head: Head, table: &[u32]) {
-    text(b";");
-    cases::show::head(head);
-    text(b"; cells");
+pub(crate) fn table(page: &mut Page, head: Head, table: &[u32]) {
+    page.put_text(b";");
+    cases::show::head(page, head);
+    page.put_text(b"; cells");
     for x in table.iter().take(cells_of(head)) {
-        next(*x);
+        next(page, *x);
     }
 }

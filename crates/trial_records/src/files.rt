@@ -5,6 +5,7 @@ use crate::records::show_bound;
 use cases::{front, show};
 use load::{Load, read_job};
 use std::array;
+use text::Page;
 
 // What the buffer holds before.
 fn pattern() -> [u32; 30] {
@@ -19,52 +20,54 @@ fn is_pattern(table: &[u32; 30]) -> bool
 }
 
 // Whether memory that is not to be written is as it was.
-fn show_kept(table: &[u32; 30]) {
+fn show_kept(page: &mut Page, table: &[u32; 30]) {
     if is_pattern(table) {
-        show::text(b"; kept");
+        page.put_text(b"; kept");
     } else {
-        show::text(b"; changed");
+        page.put_text(b"; changed");
     }
 }
 
-fn show_table(table: &[u32; 30]) {
-    show::text(b"; table");
+fn show_table(page: &mut Page, table: &[u32; 30]) {
+    page.put_text(b"; table");
     for x in table {
-        show::next(*x);
+        show::next(page, *x);
     }
 }
 
-fn show_load(load: Load) {
-    show::head(load.head);
-    show_bound(load.bound);
+fn show_load(page: &mut Page, load: Load) {
+    show::head(page, load.head);
+    show_bound(page, load.bound);
 }
 
 // By the most entries that a table or a sheet may have, and the length of the part that is lent. A file that was read shows the whole buffer,
 // so that what stands past the table, and past the part, is seen.
-pub(crate) fn file(numbers: [u64; 8], input: &[u8]) {
+pub(crate) fn file(page: &mut Page, numbers: [u64; 8], input: &[u8]) {
     let mut table = pattern();
     let answer = read_job(
         input,
         numbers[0] as usize,
         front(&mut table, numbers[1] as usize),
     );
-    show::text(b":");
+    page.put_text(b":");
     match answer {
         Err(refusal) => {
-            show::refused(refusal);
-            show_kept(&table);
+            show::refused(page, refusal);
+            show_kept(page, &table);
         }
         Ok(load) => {
-            show_load(load);
-            show_table(&table);
+            show_load(page, load);
+            show_table(page, &table);
         }
     }
 }
 
 // By the most entries that a table or a sheet may have: what goes with the table, or the refusal.
-pub(crate) fn whole(numbers: [u64; 8], input: &[u8]) {
+pub(crate) fn whole(page: &mut Page, numbers: [u64; 8], input: &[u8]) {
     let mut table = [0u32; 4096];
     let answer = read_job(input, numbers[0] as usize, &mut table);
-    show::text(b":");
-    show::answer(answer, show_load);
+    page.put_text(b":");
+    if let Some(load) = show::answer(page, answer) {
+        show_load(page, load);
+    }
 }
