@@ -7,6 +7,15 @@ mod list;
 mod numbers;
 mod show;
 
+// The most of a list that is read.
+const MOST: usize = 524288;
+
+// Runs the list that stands in standard input. By its type the room has its length, which a proof of `main` would count out.
+fn run(room: &mut [u8; MOST]) {
+    let size = io::read_full(0, room);
+    list::run(&room[..size]);
+}
+
 fn main() {
-    cases::on_list::<524288, _>(list::run);
+    run(&mut [0; MOST]);
 }

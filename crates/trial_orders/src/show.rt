@@ -1,34 +1,40 @@
-// What is printed of an order.
-use cases::show::{next, text};
+// What is printed, and what is put on a page of an order.
+use cases::STDOUT;
+use cases::show::next;
 use orders::Order;
+use text::Page;
 
-fn pattern(bits: u32) {
-    text(b" bits");
-    next(bits);
+pub(crate) fn print(words: &[u8]) {
+    io::write_all(STDOUT, words);
+}
+
+fn pattern(page: &mut Page<'_>, bits: u32) {
+    page.put_text(b" bits");
+    next(page, bits);
 }
 
 // The bits of a float. A NaN, which alone differs from itself, has not one pattern only.
-fn bits(x: f32) {
+fn bits(page: &mut Page<'_>, x: f32) {
     if x == x {
-        pattern(f32::to_bits(x));
+        pattern(page, f32::to_bits(x));
         return;
     }
-    text(b" not a number");
+    page.put_text(b" not a number");
 }
 
-pub(crate) fn order(order: Order) {
+pub(crate) fn order(page: &mut Page<'_>, order: Order) {
     match order {
         Order::Lift(height) => {
-            text(b" lift,");
-            bits(height);
+            page.put_text(b" lift,");
+            bits(page, height);
         }
         Order::Cure(seconds) => {
-            text(b" cure,");
-            bits(seconds);
+            page.put_text(b" cure,");
+            bits(page, seconds);
         }
         Order::Finish(count) => {
-            text(b" finish, layers");
-            next(count);
+            page.put_text(b" finish, layers");
+            next(page, count);
         }
     }
 }

@@ -1,6 +1,7 @@
 // Memory that is lent: two lists of numbers, and an output.
 use cases::{part, show};
 use record::read_words;
+use text::Page;
 
 #[derive(Drop)]
 pub(crate) struct Memory {
@@ -33,18 +34,18 @@ fn sum(output: &[u8]) -> u64 {
 }
 
 // What was written: each byte where they are few; of more their sum, and the ends.
-pub(crate) fn show_written(output: &[u8], size: usize) {
+pub(crate) fn show_written(page: &mut Page<'_>, output: &[u8], size: usize) {
     if size <= show::FEW {
-        show::written(output, size);
+        show::written(page, output, size);
         return;
     }
-    show::text(b"; sum");
-    show::next(sum(part(output, 0, size)));
-    show::ends(output, size);
+    page.put_text(b"; sum");
+    show::next(page, sum(part(output, 0, size)));
+    show::ends(page, output, size);
 }
 
-pub(crate) fn show_list(list: &[u16]) {
+pub(crate) fn show_list(page: &mut Page<'_>, list: &[u16]) {
     for x in list {
-        show::next(*x);
+        show::next(page, *x);
     }
 }

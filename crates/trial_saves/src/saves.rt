@@ -2,37 +2,50 @@
 use crate::memory::{Memory, lay, show_list, show_written};
 use cases::{PAST, lend, part, show};
 use job::{Asked, Cursor, Read, State};
+use plate::refusal::Refusal;
 use record::quad;
 use save::{job_size, write_job};
+use text::Page;
 
-fn save(asked: Asked, boundaries: &[u16], counts: &[u16], lent: usize, output: &mut [u8]) {
-    let answer = lend(output, lent, |output| {
-        write_job(
-            asked.height,
-            asked.members,
-            asked.bound,
-            boundaries,
-            counts,
-            output,
-        )
-    });
-    show::answer(answer, show::done);
-    show::text(b"; size");
-    show::answer(job_size(counts), show::done);
+fn show_size(page: &mut Page<'_>, answer: Result<u64, Refusal>) {
+    if let Some(size) = show::answer(page, answer) {
+        show::done(page, size);
+    }
+}
+
+fn save(
+    page: &mut Page<'_>,
+    asked: Asked,
+    boundaries: &[u16],
+    counts: &[u16],
+    lent: usize,
+    output: &mut [u8],
+) {
+    let answer = write_job(
+        asked.height,
+        asked.members,
+        asked.bound,
+        boundaries,
+        counts,
+        lend(output, lent),
+    );
+    show_size(page, answer);
+    page.put_text(b"; size");
+    show_size(page, job_size(counts));
     let marked = lent.saturating_add(PAST);
     match answer {
         Ok(size) => {
-            show::kept(output, size as usize, marked);
-            show_written(output, size as usize);
+            show::kept(page, output, size as usize, marked);
+            show_written(page, output, size as usize);
         }
-        Err(_) => show::kept(output, 0, marked),
+        Err(_) => show::kept(page, output, 0, marked),
     }
 }
 
 // By eight numbers of four bytes each, and then boundaries and counts of two bytes each: the height, the members and the bound; how many
 // boundaries, and how many counts, stand here; how many columns there are, and from which on the counts are theirs, the others having none;
 // and the length of the output.
-pub(crate) fn write(given: &[u8], memory: &mut Memory) {
+pub(crate) fn write(page: &mut Page<'_>, given: &[u8], memory: &mut Memory) {
     let asked = Asked {
         height: quad(given, 0),
         members: quad(given, 4),
@@ -46,6 +59,7 @@ pub(crate) fn write(given: &[u8], memory: &mut Memory) {
     lay(&mut memory.counts, 0, columns, given, given.len());
     lay(&mut memory.counts, from, stated, given, 32 + 2 * together);
     save(
+        page,
         asked,
         part(&memory.boundaries, 0, together),
         part(&memory.counts, 0, columns),
@@ -115,33 +129,34 @@ fn gather_all(file: &[u8], memory: &mut Memory) -> Gathered {
     gathered
 }
 
-fn show_gathered(gathered: Gathered, boundaries: &[u16], counts: &[u16]) {
+fn show_gathered(page: &mut Page<'_>, gathered: Gathered, boundaries: &[u16], counts: &[u16]) {
     let asked = gathered.asked;
-    show::text(b"; height");
-    show::next(asked.height);
-    show::text(b", members");
-    show::next(asked.members);
-    show::text(b", bound");
-    show::next(asked.bound);
-    show::text(b"; boundaries");
-    show_list(boundaries);
-    show::text(b"; counts");
-    show_list(counts);
-    show::text(b"; remarks");
-    show::next(gathered.remarks);
+    page.put_text(b"; height");
+    show::next(page, asked.height);
+    page.put_text(b", members");
+    show::next(page, asked.members);
+    page.put_text(b", bound");
+    show::next(page, asked.bound);
+    page.put_text(b"; boundaries");
+    show_list(page, boundaries);
+    page.put_text(b"; counts");
+    show_list(page, counts);
+    page.put_text(b"; remarks");
+    show::next(page, gathered.remarks);
 }
 
 // Reads a file, and writes what was read into an output of its length.
-pub(crate) fn round(file: &[u8], memory: &mut Memory) {
+pub(crate) fn round(page: &mut Page<'_>, file: &[u8], memory: &mut Memory) {
     let gathered = gather_all(file, memory);
     let boundaries = part(&memory.boundaries, 0, gathered.together);
     let counts = part(&memory.counts, 0, gathered.columns);
     save(
+        page,
         gathered.asked,
         boundaries,
         counts,
         file.len(),
         &mut memory.output,
     );
-    show_gathered(gathered, boundaries, counts);
+    show_gathered(page, gathered, boundaries, counts);
 }
