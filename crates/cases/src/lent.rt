@@ -1,10 +1,14 @@
 // Lent memory: the front of it that a call is lent, the marks that it holds before the call, and a digest of what it holds after.
 ghost use Rattle.std.specs.Prelude.{◌≡◌, List, ℕ, ◌+◌, ◌%◌, ◌≤◌, ◌<◌, min, max, map, length, get_or, set, take};
 ghost use Rattle.lists.specs.Rewrite.{Span};
+ghost use Rattle.cases.specs.Marks.{marks_again};
 ghost use Rattle.cases.specs.Cases.{digest_with, digest_of};
 
 // So many marks stand past what is lent, so that what is written there is seen.
 pub const PAST: usize = 8;
+
+// So many marks there are before they come again.
+const MARKS: usize = 50;
 
 // A number that lent memory holds.
 pub trait Number: Copy {
@@ -70,6 +74,8 @@ pub trait Mark: Number {
     fn following(self) -> Self
         ensures { (i : ℕ) → self ≡ mark i → result ≡ mark (i + 1) };
 
+    ghost again: { (i : ℕ) → mark (i + 50) ≡ mark i };
+
     // A number with a mark's value is that mark.
     ghost tells: { (x : Self) (i : ℕ) → Self.value x ≡ Self.value (mark i) → x ≡ mark i };
 }
@@ -78,6 +84,8 @@ impl Mark for u8 {
     ghost none = { 0 };
 
     ghost mark = { λ i. 200 + i % 50 };
+
+    ghost again = { marks_again 200 };
 
     ghost tells = { λ x i e. e };
 
@@ -98,6 +106,8 @@ impl Mark for u32 {
     ghost none = { 0 };
 
     ghost mark = { λ i. 4000000000 + i % 50 };
+
+    ghost again = { marks_again 4000000000 };
 
     ghost tells = { λ x i e. e };
 
@@ -121,14 +131,16 @@ pub fn front<T>(output: &mut [T], size: usize) -> &mut [T]
     &mut output[..lent]
 }
 
-// Lays so many marks, as far as there is room.
+// Lays so many marks, as far as there is room. Marks come again, so that most are copied.
 pub fn fill<T: Mark>(output: &mut [T], size: usize)
     ensures { Span T.none 0 (min size (length output.old)) (λ i x. T.mark i) output.old output.new }
 {
-    let mut mark = T::mark(0);
-    for i in 0..size.min(output.len()) {
-        output[i] = mark;
-        mark = mark.following();
+    let end = size.min(output.len());
+    for i in 0..end.min(MARKS) {
+        output[i] = T::mark(i);
+    }
+    for i in MARKS..end {
+        output[i] = output[i - MARKS];
     }
 }
 
