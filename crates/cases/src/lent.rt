@@ -69,15 +69,18 @@ pub trait Mark: Number {
     fn mark(i: usize) -> Self
         ensures { result ≡ mark i };
 
-    // The mark at the index after a mark's. A loop over marks goes from one to the next by it: with the remainder reckoned anew at every index, laying and
-    // looking at four million marks took half as long again.
-    fn following(self) -> Self
-        ensures { (i : ℕ) → self ≡ mark i → result ≡ mark (i + 1) };
-
-    ghost again: { (i : ℕ) → mark (i + 50) ≡ mark i };
-
     // A number with a mark's value is that mark.
     ghost tells: { (x : Self) (i : ℕ) → Self.value x ≡ Self.value (mark i) → x ≡ mark i };
+}
+
+// A mark that comes again after fifty. Such marks are copied, or gone through from one to the next: with the remainder reckoned anew at every
+// index, laying and looking at four million of them took half as long again.
+pub trait Recurring: Mark {
+    // The mark at the index after a mark's.
+    fn following(self) -> Self
+        ensures { (i : ℕ) → self ≡ Self.mark i → result ≡ Self.mark (i + 1) };
+
+    ghost again: { (i : ℕ) → Self.mark (i + 50) ≡ Self.mark i };
 }
 
 impl Mark for u8 {
@@ -85,13 +88,15 @@ impl Mark for u8 {
 
     ghost mark = { λ i. 200 + i % 50 };
 
-    ghost again = { marks_again 200 };
-
     ghost tells = { λ x i e. e };
 
     fn mark(i: usize) -> u8 {
         (200 + i % 50) as u8
     }
+}
+
+impl Recurring for u8 {
+    ghost again = { marks_again 200 };
 
     fn following(self) -> u8 {
         if self == 249 {
@@ -107,13 +112,15 @@ impl Mark for u32 {
 
     ghost mark = { λ i. 4000000000 + i % 50 };
 
-    ghost again = { marks_again 4000000000 };
-
     ghost tells = { λ x i e. e };
 
     fn mark(i: usize) -> u32 {
         (4000000000 + i % 50) as u32
     }
+}
+
+impl Recurring for u32 {
+    ghost again = { marks_again 4000000000 };
 
     fn following(self) -> u32 {
         if self == 4000000049 {
@@ -131,8 +138,17 @@ pub fn front<T>(output: &mut [T], size: usize) -> &mut [T]
     &mut output[..lent]
 }
 
-// Lays so many marks, as far as there is room. Marks come again, so that most are copied.
+// Lays so many marks, as far as there is room.
 pub fn fill<T: Mark>(output: &mut [T], size: usize)
+    ensures { Span T.none 0 (min size (length output.old)) (λ i x. T.mark i) output.old output.new }
+{
+    for i in 0..size.min(output.len()) {
+        output[i] = T::mark(i);
+    }
+}
+
+// Lays so many marks that come again, as far as there is room: most of them are copied.
+pub fn fill_recurring<T: Recurring>(output: &mut [T], size: usize)
     ensures { Span T.none 0 (min size (length output.old)) (λ i x. T.mark i) output.old output.new }
 {
     let end = size.min(output.len());
@@ -145,15 +161,30 @@ pub fn fill<T: Mark>(output: &mut [T], size: usize)
 }
 
 // The front of memory that a call is lent, over marks that reach some way past it.
-pub fn lend<T: Mark>(memory: &mut [T], size: usize) -> &mut [T]
+pub fn lend<T: Recurring>(memory: &mut [T], size: usize) -> &mut [T]
     ensures { (held : List T) × Span T.none 0 (min (size + 8) (length memory.old)) (λ i x. T.mark i) memory.old held × (result.now ≡ take size held) }
 {
-    fill(memory, size.saturating_add(PAST));
+    fill_recurring(memory, size.saturating_add(PAST));
     front(memory, size)
 }
 
 // The end of the marks that stand from one index on, up to another.
 pub fn end_of_marks<T: Mark>(output: &[T], from: usize, to: usize) -> usize
+    ensures lower_bound { (from ≤ result) × (result ≤ max from (min to (length output.now))) }
+    ensures by_index { (i : ℕ) → from ≤ i → i < result → get_or output.now i T.none ≡ T.mark i }
+    ensures fact { result < length output.now → result < to → get_or output.now result T.none ≡ T.mark result → ⊥ }
+{
+    let end = to.min(output.len()).max(from);
+    for i in from..end {
+        if output[i].wide() != T::mark(i).wide() {
+            return i;
+        }
+    }
+    end
+}
+
+// The same end of marks that come again, which are looked at from one to the next.
+pub fn end_of_recurring<T: Recurring>(output: &[T], from: usize, to: usize) -> usize
     ensures lower_bound { (from ≤ result) × (result ≤ max from (min to (length output.now))) }
     ensures by_index { (i : ℕ) → from ≤ i → i < result → get_or output.now i T.none ≡ T.mark i }
     ensures fact { result < length output.now → result < to → get_or output.now result T.none ≡ T.mark result → ⊥ }

@@ -5,7 +5,12 @@
 mod lent;
 mod line;
 pub mod show;
+#[cfg(test)]
+mod tests;
 
-pub use lent::{Mark, Number, PAST, change, digest, digested, end_of_marks, fill, front, lend};
+pub use lent::{
+    Mark, Number, PAST, Recurring, change, digest, digested, end_of_marks, end_of_recurring, fill,
+    fill_recurring, front, lend,
+};
 pub use line::{Lines, find, given, label, lay, letter, part};
 pub use show::STDOUT;

@@ -4,7 +4,7 @@ ghost use Rattle.std.specs.Result.{result_ok};
 ghost use Rattle.text.specs.Page.{lay};
 ghost use Rattle.cases.specs.Shown.{next_text, signed_text, byte_text, bytes_text, cells_text, bytes_word, cells_word, done_text, refused_text, answer_text, head_text, IsEndOfMarks, kept_text, ends_text, written_text, left_text};
 
-use crate::lent::{Mark, Number, PAST, digest, end_of_marks};
+use crate::lent::{Number, PAST, Recurring, digest, end_of_recurring};
 use plate::head::Head;
 use plate::refusal::Refusal;
 use text::Page;
@@ -86,13 +86,13 @@ pub fn head(page: &mut Page, head: Head)
 }
 
 // How far the marks stand from one index on, up to another.
-pub fn kept<T: Mark>(page: &mut Page, output: &[T], from: usize, to: usize)
+pub fn kept<T: Recurring>(page: &mut Page, output: &[T], from: usize, to: usize)
     ensures { (end : ℕ) × IsEndOfMarks T.none T.mark output.now from to end × (page.new ≡ lay (kept_text from end) page.old) }
 {
     page.put_text(b"; kept from");
     next(page, from);
     page.put_text(b" to");
-    next(page, end_of_marks(output, from, to));
+    next(page, end_of_recurring(output, from, to));
 }
 
 // Numbers that lent memory is shown in.
@@ -171,7 +171,7 @@ pub fn ends<T: Shown>(page: &mut Page, output: &[T], size: usize)
 }
 
 // What stands in lent memory after a call that wrote so many numbers, or none where it was refused.
-pub fn left<T: Shown + Mark>(page: &mut Page, memory: &[T], lent: usize, size: Option<usize>)
+pub fn left<T: Shown + Recurring>(page: &mut Page, memory: &[T], lent: usize, size: Option<usize>)
     ensures { (end : ℕ) × IsEndOfMarks T.none T.mark memory.now (unwrap_or size 0) (lent + 8) end × (page.new ≡ lay (left_text T.name T.shown T.value memory.now size end) page.old) }
 {
     kept(page, memory, size.unwrap_or(0), lent.saturating_add(PAST));

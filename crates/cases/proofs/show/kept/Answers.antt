@@ -6,7 +6,7 @@ use Rattle.cases.proofs.show.kept.Goals as goal
 pub returns : goal.returns
 unfolding kept_text kept_word to_word
 returns g c =
-    let end = c.end_of_marks in (
+    let end = c.end_of_recurring in (
       end.result,
       record { within = end.ensures.lower_bound; marks = end.ensures.by_index; other = end.ensures.fact },
       laid-onto _ _ _ _ _ c.put_text.ensures
