@@ -13,6 +13,9 @@ ghost use Rattle.record.specs.Written.{bytes16, bytes32, long16, long32, spelled
 
 use plate::refusal::{Reason, Refusal, refusal_at};
 
+#[cfg(test)]
+mod tests;
+
 // Why a file is refused, a case for each of its checks: fewer than 4 bytes left, kind not allowed here, wrong length for the kind, body past the
 // input, contents that disagree with the file, bytes after the end. Document 02 f) gives them four numbers.
 #[derive(Clone, Copy, Debug, PartialEq, Eq)]
@@ -78,6 +81,32 @@ impl Stored<4> for u32 {
     }
 
     ghost long = { long32 };
+}
+
+// A number that can be read from any place of a file, for a function that leaves open which number it is. Where that is known, `word` and `quad`
+// say the same.
+pub trait Loaded<const N: usize>: Stored<N> {
+    ghost read: { List ℕ → ℕ → Self };
+
+    // The number whose bytes stand at a place.
+    fn load(input: &[u8], at: usize) -> Self
+        ensures { result ≡ read input.now at };
+}
+
+impl Loaded<2> for u16 {
+    ghost read = { le16 };
+
+    fn load(input: &[u8], at: usize) -> u16 {
+        word(input, at)
+    }
+}
+
+impl Loaded<4> for u32 {
+    ghost read = { le32 };
+
+    fn load(input: &[u8], at: usize) -> u32 {
+        quad(input, at)
+    }
 }
 
 // Stores numbers one after the other, from a place on.
