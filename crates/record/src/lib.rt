@@ -83,8 +83,8 @@ impl Stored<4> for u32 {
     ghost long = { long32 };
 }
 
-// A number that can be read from any place of a file, for a function that leaves open which number it is. Where that is known, `word` and `quad`
-// say the same.
+// A number that can be read from any place of a file, for a function that is generic over the number. For `u16` and `u32` themselves `word` and
+// `quad` say the same.
 pub trait Loaded<const N: usize>: Stored<N> {
     ghost read: { List ℕ → ℕ → Self };
 

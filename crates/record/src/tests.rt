@@ -1,4 +1,4 @@
-// Numbers are loaded by a function that leaves open which number it is.
+// A function that is generic over the number loads numbers of either type.
 use crate::Loaded;
 
 fn second<const N: usize, T: Loaded<N>>(input: &[u8]) -> T {
