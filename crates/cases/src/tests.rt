@@ -1,4 +1,4 @@
-// Marks of a type that has no more than `Mark` asks, and so never come again, are laid and looked at.
+// Marks that never come again, of a type with no more than `Mark` asks, are laid and looked at.
 use crate::lent::{Mark, end_of_marks, fill};
 
 impl Mark for u64 {
